@@ -1,0 +1,2 @@
+pub mod SignalNames
+pub mod Prefixes

@@ -1,0 +1,4 @@
+pub mod FlatTree
+pub mod FlatSpelling
+pub mod FlatShape
+pub mod FlatCondition

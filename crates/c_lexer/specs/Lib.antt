@@ -1,0 +1,4 @@
+pub mod Bytes
+pub mod Lexeme
+pub mod Scanned
+pub mod Tokens

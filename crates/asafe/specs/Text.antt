@@ -1,0 +1,41 @@
+-- What is said of texts: which program a text spells, and what no run of it does.
+use Rattle.std.specs.Prelude.{◌≡◌, ℕ, List}
+use Rattle.c_lexer.specs.Tokens.{TokensOf}
+use Rattle.c_tree.specs.FlatTree.{FlatTree}
+use Rattle.c_tree.specs.FlatShape.{IsFlat}
+use Rattle.c_tree.specs.FlatSpelling.{spell}
+use Rattle.c_tree.specs.FlatCondition.{IsAccepted}
+use Rattle.run_model.specs.World.{World, IsStart}
+use Rattle.run_model.specs.Steps.{Run, GoesOn}
+use Rattle.run_model.specs.Breaches.{BreaksNone}
+use Rattle.asafe.specs.declared.decision.Decision.{Decision}
+use Rattle.asafe.specs.declared.decision.Decision.TheVariants.{Accepted, Refused, NotFlat}
+
+-- the text spells the flat program
+pub record Spells (text : List ℕ) (t : FlatTree) : Type 0 where
+  pub flat : IsFlat t
+  pub tokens : TokensOf text (spell t)
+
+-- the text spells exactly one flat program, the condition on its handlers holds, and no run of it, signals arriving between
+-- any two steps, breaks a rule or returns from a handler with errno changed
+pub record KeepsTheRules (text : List ℕ) : Type 0 where
+  pub tree : FlatTree
+  pub spells : Spells text tree
+  pub only : (u : FlatTree) → Spells text u → u ≡ tree
+  pub accepted : IsAccepted tree
+  pub runs : (w : World) (run : Run) → IsStart w → GoesOn tree w run → BreaksNone tree run
+
+-- the text spells exactly one flat program, and the condition on its handlers doesn't hold
+pub record IsRefusedText (text : List ℕ) : Type 0 where
+  pub tree : FlatTree
+  pub spells : Spells text tree
+  pub only : (u : FlatTree) → Spells text u → u ≡ tree
+  pub refused : ¬ IsAccepted tree
+
+abbrev pub IsNotFlat : List ℕ → Type 0
+IsNotFlat text = (t : FlatTree) → ¬ Spells text t
+
+abbrev pub Decides : List ℕ → Decision → Type 0
+Decides text Accepted = KeepsTheRules text
+Decides text Refused = IsRefusedText text
+Decides text NotFlat = IsNotFlat text

@@ -1,0 +1,42 @@
+ghost use Rattle.std.specs.Prelude.{◌≤◌, length, IfOk};
+ghost use Rattle.asafe.specs.Text.{Decides};
+
+use crate::condition::are_safe;
+use base_core::NoMemory;
+use c_lexer::{LexFault, scan};
+use c_parser::{ParseFault, parse};
+use std::alloc::Global;
+
+/// What is decided of a text.
+#[derive(Clone, Copy, Debug, PartialEq, Eq)]
+pub(crate) enum Decision {
+    /// It is a flat program, and no run of it breaks a rule.
+    Accepted,
+    /// It is a flat program, and the condition on its handlers doesn't hold.
+    Refused,
+    /// It is no flat program.
+    NotFlat,
+}
+
+/// Decides a text of at most 1,048,576 bytes.
+pub(crate) fn decide(alloc: Global, text: &[u8]) -> Result<Decision, NoMemory>
+    requires { length text.now ≤ 1048576 }
+    ensures { IfOk result (λ decision. Decides text.now decision) }
+{
+    let tokens = match scan(alloc, text) {
+        Ok(tokens) => tokens,
+        Err(LexFault::NotYet) => return Ok(Decision::NotFlat),
+        Err(LexFault::NoMemory) => return Err(NoMemory),
+    };
+    match parse(alloc, &tokens) {
+        Ok(program) => {
+            if are_safe(&program) {
+                Ok(Decision::Accepted)
+            } else {
+                Ok(Decision::Refused)
+            }
+        }
+        Err(ParseFault::NotYet) => Ok(Decision::NotFlat),
+        Err(ParseFault::NoMemory) => Err(NoMemory),
+    }
+}

@@ -1,0 +1,5 @@
+pub mod Notation
+pub mod Profile
+pub mod Line
+pub mod Law
+pub mod Table

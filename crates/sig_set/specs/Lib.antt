@@ -1,0 +1,3 @@
+pub mod Signals
+pub mod Members
+pub mod Masks

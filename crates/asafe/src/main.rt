@@ -39,3 +39,6 @@ fn main(rt: HostRuntime) -> ExitCode {
     let mut out = StdSink::new(&rt);
     ExitCode::from(run(rt.alloc(), &words, &mut shelf, &mut out).code())
 }
+
+#[cfg(test)]
+mod tests;

@@ -1,0 +1,205 @@
+use crate::{Status, run};
+use base_core::{MemShelf, MemSink};
+use std::alloc::{AllocError, Global};
+use std::test::Fail;
+
+const FINDINGS: &str = "findings: 0\n";
+
+const ABORTS: &str =
+    "void h(int s) { abort(); } int main(void) { signal(SIGINT, h); pause(); return 0; }";
+
+fn certify(alloc: Global, file: &str) -> Result<Vec<String>, AllocError> {
+    let mut words = Vec::new(alloc);
+    words.push("certify".to_string(alloc)?)?;
+    words.push(file.to_string(alloc)?)?;
+    Ok(words)
+}
+
+/// The status of a text, what was put, and what the shelf holds then.
+fn decided(alloc: Global, text: &str) -> Result<(Status, Vec<u8>, Vec<u8>), Fail> {
+    let words = certify(alloc, "a.c")?;
+    let mut shelf = MemShelf::new(alloc);
+    shelf.set("a.c", text.as_bytes())?;
+    let mut out = MemSink::new(alloc, 100, 100)?;
+    let status = run(alloc, &words, &mut shelf, &mut out);
+    let held = match shelf.contents("a.c") {
+        Some(held) => held.to_vec(alloc)?,
+        None => Vec::new(alloc),
+    };
+    Ok((status, out.taken().to_vec(alloc)?, held))
+}
+
+#[test]
+fn texts_are_decided(rt: HostRuntime) -> Result<(), Fail> {
+    // Worked out by hand.
+    let texts = [
+        (ABORTS, Status::Yes),
+        (
+            "void h(int s) { rand(); } int main(void) { signal(SIGINT, h); pause(); return 0; }",
+            Status::Refused,
+        ),
+        (
+            "void h(int s) { getpid(); } int main(void) { signal(SIGINT, h); pause(); return 0; }",
+            Status::Refused,
+        ),
+        (
+            "void h(int s) { rand(); } int main(void) { signal(SIGKILL, h); pause(); return 0; }",
+            Status::Yes,
+        ),
+        (
+            "void h(int s) { rand(); } int main(void) { abort(); signal(SIGINT, h); pause(); return 0; }",
+            Status::Yes,
+        ),
+        (
+            "void h(int s) { } int main(void) { signal(SIGHUP, h); rand(); return 0; }",
+            Status::Yes,
+        ),
+        ("", Status::NotYet),
+        // The smallest program, with and without line breaks.
+        ("int main(void){return 0;}", Status::Yes),
+        ("int\nmain\n(\nvoid\n)\n{\nreturn\n0\n;\n}\n", Status::Yes),
+        // A call behind an abort isn't reached, one before it is.
+        (
+            "void h(int s) { abort(); rand(); } int main(void) { signal(SIGINT, h); return 0; }",
+            Status::Yes,
+        ),
+        (
+            "void h(int s) { pause(); rand(); abort(); } int main(void) { signal(SIGINT, h); return 0; }",
+            Status::Refused,
+        ),
+        (
+            "void h(int s) { getpid(); pause(); abort(); } int main(void) { signal(SIGINT, h); return 0; }",
+            Status::Yes,
+        ),
+        // A handler that is never installed may do anything, and each that is installed counts.
+        (
+            "void h(int s) { rand(); } void k(int s) { } int main(void) { signal(SIGINT, k); return 0; }",
+            Status::Yes,
+        ),
+        (
+            "void h(int s) { rand(); } void k(int s) { } int main(void) { signal(SIGINT, k); signal(SIGTERM, h); return 0; }",
+            Status::Refused,
+        ),
+        (
+            "void h(int s) { rand(); } int main(void) { signal(SIGSTOP, h); return 0; }",
+            Status::Yes,
+        ),
+        // Near misses.
+        ("int main(void){return 0}", Status::NotYet),
+        ("int main(void){return 1;}", Status::NotYet),
+        ("int main(void){return 00;}", Status::NotYet),
+        ("intmain(void){return 0;}", Status::NotYet),
+        ("int main(void){\treturn 0;}", Status::NotYet),
+        ("int main(void){return 0;} int", Status::NotYet),
+        (
+            "int main(void){signal(SIGINT, h);return 0;}",
+            Status::NotYet,
+        ),
+        (
+            "void h(int s) { } void h(int s) { } int main(void){return 0;}",
+            Status::NotYet,
+        ),
+        (
+            "void H(int s) { } int main(void){return 0;}",
+            Status::NotYet,
+        ),
+    ];
+    for (text, status) in texts {
+        let (ended, taken, held) = decided(rt.alloc(), text)?;
+        assert_eq!(rt; ended, status, "{text}");
+        let printed = if status == Status::Yes { FINDINGS } else { "" };
+        assert_eq!(rt; taken.as_slice(), printed.as_bytes(), "{text}");
+        assert_eq!(rt; held.as_slice(), text.as_bytes(), "{text}");
+    }
+    Ok(())
+}
+
+/// The status and what was put, over a shelf that holds the text and fails at some calls, and a sink with this much room
+/// that takes this much at once and fails at some puts.
+fn faults(
+    alloc: Global,
+    failing_call: u64,
+    room: usize,
+    most: usize,
+    failing_put: u64,
+) -> Result<(Status, Vec<u8>), Fail> {
+    let words = certify(alloc, "a.c")?;
+    let mut shelf = MemShelf::new(alloc);
+    shelf.set("a.c", ABORTS.as_bytes())?;
+    shelf.fail(failing_call, 0)?;
+    let mut out = MemSink::new(alloc, room, most)?;
+    out.fail(failing_put)?;
+    let status = run(alloc, &words, &mut shelf, &mut out);
+    Ok((status, out.taken().to_vec(alloc)?))
+}
+
+#[test]
+fn devices_fail(rt: HostRuntime) -> Result<(), Fail> {
+    let alloc = rt.alloc();
+    let cases: [(u64, usize, usize, u64, Status, &str); 9] = [
+        (0, 100, 100, 0, Status::Yes, FINDINGS),
+        (2, 100, 100, 2, Status::Yes, FINDINGS),
+        (0, 12, 1, 0, Status::Yes, FINDINGS),
+        (1, 100, 100, 0, Status::ReadFault, ""),
+        (0, 100, 100, 1, Status::WriteFault, ""),
+        (0, 100, 1, 2, Status::WriteFault, "f"),
+        (0, 100, 0, 0, Status::WriteFault, ""),
+        (0, 0, 100, 0, Status::WriteFault, ""),
+        (0, 11, 4, 0, Status::WriteFault, "findings: 0"),
+    ];
+    for (failing_call, room, most, failing_put, status, put) in cases {
+        let (ended, taken) = faults(alloc, failing_call, room, most, failing_put)?;
+        assert_eq!(rt; ended, status, "{failing_call} {room} {most} {failing_put}");
+        assert_eq!(rt;
+            taken.as_slice(),
+            put.as_bytes(),
+            "{failing_call} {room} {most} {failing_put}"
+        );
+    }
+    Ok(())
+}
+
+/// The status of these words over a shelf that holds a text under a.c, and how often a read failed.
+fn asked(alloc: Global, asked: &[&str]) -> Result<(Status, u64), Fail> {
+    let mut words = Vec::new(alloc);
+    for word in asked {
+        words.push(word.to_string(alloc)?)?;
+    }
+    let mut shelf = MemShelf::new(alloc);
+    shelf.set("a.c", ABORTS.as_bytes())?;
+    let mut out = MemSink::new(alloc, 100, 100)?;
+    let status = run(alloc, &words, &mut shelf, &mut out);
+    Ok((status, shelf.failed_reads()))
+}
+
+#[test]
+fn words_and_names(rt: HostRuntime) -> Result<(), Fail> {
+    let alloc = rt.alloc();
+    let (status, failed) = asked(alloc, &["certify", "b.c"])?;
+    assert_eq!(rt; status, Status::ReadFault);
+    assert_eq!(rt; failed, 0);
+    assert_eq!(rt; asked(alloc, &["certify", "a.c"])?.0, Status::Yes);
+    assert_eq!(rt; asked(alloc, &["certify", "a.c", "b.c"])?.0, Status::Usage);
+    assert_eq!(rt; asked(alloc, &["certify"])?.0, Status::Usage);
+    assert_eq!(rt; asked(alloc, &[])?.0, Status::Usage);
+    assert_eq!(rt; asked(alloc, &["check", "a.c"])?.0, Status::Usage);
+    Ok(())
+}
+
+/// The status of the smallest program with blanks behind it, so that it has this many bytes.
+fn sized(alloc: Global, size: usize) -> Result<Status, Fail> {
+    let words = certify(alloc, "a.c")?;
+    let mut text = b"int main(void){return 0;}".to_vec(alloc)?;
+    text.resize(size, b' ')?;
+    let mut shelf = MemShelf::new(alloc);
+    shelf.set("a.c", &text)?;
+    let mut out = MemSink::new(alloc, 100, 100)?;
+    Ok(run(alloc, &words, &mut shelf, &mut out))
+}
+
+#[test]
+fn sizes_are_limited(rt: HostRuntime) -> Result<(), Fail> {
+    assert_eq!(rt; sized(rt.alloc(), 1_048_576)?, Status::Yes);
+    assert_eq!(rt; sized(rt.alloc(), 1_048_577)?, Status::TooLarge);
+    Ok(())
+}

@@ -1,0 +1,2 @@
+void h(int s) { rand(); }
+int main(void) { signal(SIGINT, h); pause(); return 0; }

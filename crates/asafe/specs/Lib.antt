@@ -2,5 +2,8 @@ pub mod Status
 pub mod Words
 pub mod Condition
 pub mod Text
+pub mod FaultLine
+pub mod Ending
+pub mod Answers
 pub mod Printing
 pub mod Ends

@@ -2,12 +2,16 @@ ghost use Rattle.std.specs.Prelude.{◌≡◌, ◌≢◌, ◌⊎◌, ◌↔◌, 
 ghost use Rattle.base_core.specs.Contents.{text_of, Lacks};
 ghost use Rattle.base_core.specs.Count.{Rose};
 ghost use Rattle.asafe.specs.Words.{certified_file, HasText, LacksFile};
-ghost use Rattle.asafe.specs.Text.{KeepsTheRules, IsRefusedText, IsNotFlat};
-ghost use Rattle.asafe.specs.Printing.{Prints};
-ghost use Rattle.asafe.specs.Ends.{IsTextStatus, IsTooLargeOrFault};
+ghost use Rattle.asafe.specs.Text.{KeepsTheRules, IsRefusedText, IsNotFlat, HasFault};
+ghost use Rattle.asafe.specs.Printing.{Prints, PutsPart};
+ghost use Rattle.asafe.specs.Ends.{IsTooLargeOrFault};
+ghost use Rattle.asafe.specs.Ending.{ending_status};
+ghost use Rattle.asafe.specs.Answers.{TextAnswer, FileAnswer, PutsLine, printed_of};
 
 use crate::Status;
 use crate::decision::{Decision, decide};
+use crate::ending::Ending;
+use crate::fault_line::fault_line;
 use crate::put::put_all;
 use crate::words::certified_file;
 use base_core::{ReadError, Shelf, Sink};
@@ -16,42 +20,39 @@ use std::alloc::Global;
 /// The greatest number of bytes of a text.
 const TEXT_LIMIT: u32 = 1_048_576;
 
-/// The status of a text that was read.
-fn text_status(alloc: Global, text: &[u8]) -> Status
+/// How the command ends on a text that was read from this file.
+fn text_ending(alloc: Global, file: &str, text: &[u8]) -> Ending
     requires { length text.now ≤ 1048576 }
-    ensures yes { result ≡ Status.Yes → KeepsTheRules text.now }
-    ensures refused { result ≡ Status.Refused → IsRefusedText text.now }
-    ensures not_yet { result ≡ Status.NotYet → IsNotFlat text.now }
-    ensures no_other { IsTextStatus result }
+    ensures { TextAnswer file.now text.now result }
 {
     match decide(alloc, text) {
-        Ok(Decision::Accepted) => Status::Yes,
-        Ok(Decision::Refused) => Status::Refused,
-        Ok(Decision::NotFlat) => Status::NotYet,
-        Err(_) => Status::NoMemory,
+        Ok(Decision::Accepted) => Ending::Plain(Status::Yes),
+        Ok(Decision::Refused) => Ending::Plain(Status::Refused),
+        Ok(Decision::NotFlat) => Ending::Plain(Status::NotYet),
+        Ok(Decision::Faulty(fault)) => match fault_line(alloc, file, text, fault) {
+            Ok(line) => Ending::Faulty(line),
+            Err(_) => Ending::Plain(Status::NoMemory),
+        },
+        Err(_) => Ending::Plain(Status::NoMemory),
     }
 }
 
-/// The status of a file, before anything is printed.
-fn file_status<H: Shelf>(alloc: Global, shelf: &mut H, file: &str) -> Status
-    ensures yes { result ≡ Status.Yes → (text : List ℕ) → text_of (H.contents shelf.old) file.now ≡ Some text → KeepsTheRules text }
-    ensures refused { result ≡ Status.Refused → (text : List ℕ) → text_of (H.contents shelf.old) file.now ≡ Some text → IsRefusedText text }
-    ensures not_yet { result ≡ Status.NotYet → (text : List ℕ) → text_of (H.contents shelf.old) file.now ≡ Some text → IsNotFlat text }
-    ensures too_large { result ≡ Status.TooLarge → (text : List ℕ) → text_of (H.contents shelf.old) file.now ≡ Some text → 1048576 < length text }
-    ensures large { (text : List ℕ) → text_of (H.contents shelf.old) file.now ≡ Some text → 1048576 < length text → IsTooLargeOrFault result }
-    ensures read_fault { result ≡ Status.ReadFault → Rose (H.failed_reads shelf.old) (H.failed_reads shelf.new) ⊎ Lacks (H.contents shelf.old) file.now }
-    ensures absent { Lacks (H.contents shelf.old) file.now → (result ≡ Status.ReadFault) ⊎ (result ≡ Status.NoMemory) }
-    ensures no_usage { result ≢ Status.Usage }
-    ensures no_write_fault { result ≢ Status.WriteFault }
+/// How the command ends on a file.
+fn file_ending<H: Shelf>(alloc: Global, shelf: &mut H, file: &str) -> Ending
+    ensures answer { (text : List ℕ) → text_of (H.contents shelf.old) file.now ≡ Some text → FileAnswer file.now text result }
+    ensures read_fault { ending_status result ≡ Status.ReadFault → Rose (H.failed_reads shelf.old) (H.failed_reads shelf.new) ⊎ Lacks (H.contents shelf.old) file.now }
+    ensures absent { Lacks (H.contents shelf.old) file.now → (ending_status result ≡ Status.ReadFault) ⊎ (ending_status result ≡ Status.NoMemory) }
+    ensures no_usage { ending_status result ≢ Status.Usage }
+    ensures no_write_fault { ending_status result ≢ Status.WriteFault }
     ensures contents { H.contents shelf.new ≡ H.contents shelf.old }
     ensures reads { H.failed_reads shelf.old ≤ H.failed_reads shelf.new }
     ensures writes { H.failed_writes shelf.new ≡ H.failed_writes shelf.old }
 {
     match shelf.read(alloc, file, TEXT_LIMIT) {
-        Ok(text) => text_status(alloc, &text),
-        Err(ReadError::Failed) => Status::ReadFault,
-        Err(ReadError::TooLong) => Status::TooLarge,
-        Err(ReadError::NoMemory) => Status::NoMemory,
+        Ok(text) => text_ending(alloc, file, &text),
+        Err(ReadError::Failed) => Ending::Plain(Status::ReadFault),
+        Err(ReadError::TooLong) => Ending::Plain(Status::TooLarge),
+        Err(ReadError::NoMemory) => Ending::Plain(Status::NoMemory),
     }
 }
 
@@ -65,6 +66,11 @@ pub fn run<H: Shelf, K: Sink>(alloc: Global, words: &[String], shelf: &mut H, ou
     ensures refused { result ≡ Status.Refused → (text : List ℕ) → HasText (map string_bytes words.now) (H.contents shelf.old) text → IsRefusedText text }
     ensures not_yet { result ≡ Status.NotYet → (text : List ℕ) → HasText (map string_bytes words.now) (H.contents shelf.old) text → IsNotFlat text }
 
+    // A fault of the lexis is told with its place.
+    ensures fault { result ≡ Status.Text → (text : List ℕ) → HasText (map string_bytes words.now) (H.contents shelf.old) text → HasFault text }
+    ensures fault_printed { result ≡ Status.Text → (text : List ℕ) (asked : HasText (map string_bytes words.now) (H.contents shelf.old) text)
+        → PutsLine asked.file text (K.taken out.old) (K.taken out.new) }
+
     // The size of the text is tried before its form.
     ensures too_large { result ≡ Status.TooLarge → (text : List ℕ) → HasText (map string_bytes words.now) (H.contents shelf.old) text → 1048576 < length text }
     ensures large { (text : List ℕ) → HasText (map string_bytes words.now) (H.contents shelf.old) text → 1048576 < length text → IsTooLargeOrFault result }
@@ -77,6 +83,8 @@ pub fn run<H: Shelf, K: Sink>(alloc: Global, words: &[String], shelf: &mut H, ou
     ensures write_fault { result ≡ Status.WriteFault → Rose (K.faults out.old) (K.faults out.new) }
     ensures no_memory { result ≡ Status.NoMemory → out.new ≡ out.old }
     ensures printed { Prints result (K.taken out.old) (K.taken out.new) }
+    ensures part { result ≡ Status.WriteFault → (text : List ℕ) (asked : HasText (map string_bytes words.now) (H.contents shelf.old) text)
+        → PutsPart (K.taken out.old) (K.taken out.new) (printed_of asked.file text) }
 
     // No name of the shelf changes.
     ensures contents { H.contents shelf.new ≡ H.contents shelf.old }
@@ -84,12 +92,12 @@ pub fn run<H: Shelf, K: Sink>(alloc: Global, words: &[String], shelf: &mut H, ou
     ensures writes { H.failed_writes shelf.new ≡ H.failed_writes shelf.old }
     ensures faults { K.faults out.old ≤ K.faults out.new }
 {
-    let status = match certified_file(words) {
-        Some(file) => file_status(alloc, shelf, file),
-        None => Status::Usage,
+    let ending = match certified_file(words) {
+        Some(file) => file_ending(alloc, shelf, file),
+        None => Ending::Plain(Status::Usage),
     };
-    match put_all(out, status.text()) {
-        Ok(()) => status,
+    match put_all(out, ending.text()) {
+        Ok(()) => ending.status(),
         Err(_) => Status::WriteFault,
     }
 }

@@ -14,8 +14,10 @@ pub(crate) enum Decision {
     Accepted,
     /// It is a flat program, and the condition on its handlers doesn't hold.
     Refused,
-    /// It is no flat program.
+    /// It has tokens, and is no flat program.
     NotFlat,
+    /// It has a fault of the lexis.
+    Faulty(LexFault),
 }
 
 /// Decides a text of at most 1,048,576 bytes.
@@ -25,8 +27,8 @@ pub(crate) fn decide(alloc: Global, text: &[u8]) -> Result<Decision, NoMemory>
 {
     let tokens = match scan(alloc, text) {
         Ok(tokens) => tokens,
-        Err(LexFault::NotYet) => return Ok(Decision::NotFlat),
         Err(LexFault::NoMemory) => return Err(NoMemory),
+        Err(fault) => return Ok(Decision::Faulty(fault)),
     };
     match parse(alloc, &tokens) {
         Ok(program) => {

@@ -8,6 +8,8 @@
 mod command;
 mod condition;
 mod decision;
+mod ending;
+mod fault_line;
 mod put;
 mod status;
 mod words;

@@ -10,6 +10,8 @@ pub enum Status {
     Refused,
     /// The words are not those of a command.
     Usage,
+    /// The text has a fault of the lexis.
+    Text,
     /// The file was not read.
     ReadFault,
     /// Standard output failed.
@@ -31,6 +33,7 @@ impl Status {
             Status::Yes => 0,
             Status::Refused => 1,
             Status::Usage => 2,
+            Status::Text => 3,
             Status::ReadFault => 4,
             Status::WriteFault => 5,
             Status::NoMemory => 6,
@@ -39,7 +42,7 @@ impl Status {
         }
     }
 
-    /// What is printed.
+    /// What is printed, but for the line of a fault of the text.
     pub(crate) fn text(self) -> &'static [u8]
         ensures { result.now ≡ text_of self }
     {

@@ -89,7 +89,14 @@ fn texts_are_decided(rt: HostRuntime) -> Result<(), Fail> {
         ("int main(void){return 1;}", Status::NotYet),
         ("int main(void){return 00;}", Status::NotYet),
         ("intmain(void){return 0;}", Status::NotYet),
-        ("int main(void){\treturn 0;}", Status::NotYet),
+        // Blanks, comments, `#include` lines and line markers between the tokens.
+        ("int main(void){\treturn 0;}", Status::Yes),
+        ("int/**/main(void)//\n{return 0;}", Status::Yes),
+        ("#include <signal.h>\r\nint main(void){return 0;}", Status::Yes),
+        ("# 7 \"b.c\" 1\nint main(void){return 0;}", Status::Yes),
+        // Tokens that no program of the first form has.
+        ("int main(void){return 0x0;}", Status::NotYet),
+        ("int main(void){return 'a';}", Status::NotYet),
         ("int main(void){return 0;} int", Status::NotYet),
         (
             "int main(void){signal(SIGINT, h);return 0;}",
@@ -114,15 +121,38 @@ fn texts_are_decided(rt: HostRuntime) -> Result<(), Fail> {
     Ok(())
 }
 
+#[test]
+fn faults_of_the_lexis_are_told(rt: HostRuntime) -> Result<(), Fail> {
+    // Worked out by hand: a text, and the line that tells its first fault.
+    let texts = [
+        ("@", "a.c:1:1: not in the subset: BadByte\n"),
+        ("int main(void)\n{ return 0; } /* ", "a.c:2:15: not in the subset: OpenComment\n"),
+        ("int main(void){return 'a;}", "a.c:1:23: not in the subset: OpenLiteral\n"),
+        (
+            "int main(void){return 18446744073709551616;}",
+            "a.c:1:23: not in the subset: NumberTooLarge\n",
+        ),
+        ("\n#define X 0\n", "a.c:2:1: not in the subset: Directive\n"),
+        ("# 7 \"b.c\"\n  @", "b.c:7:3: not in the subset: BadByte\n"),
+    ];
+    for (text, line) in texts {
+        let (ended, taken, held) = decided(rt.alloc(), text)?;
+        assert_eq!(rt; ended, Status::Text, "{text}");
+        assert_eq!(rt; taken.as_slice(), line.as_bytes(), "{text}");
+        assert_eq!(rt; held.as_slice(), text.as_bytes(), "{text}");
+    }
+    Ok(())
+}
+
 /// The status and what was put, over a shelf that holds the text and fails at some calls, and a sink with this much room
-/// that takes this much at once and fails at some puts.
+/// that takes this much at once and fails at some puts; and whether the shelf holds the text still.
 fn faults(
     alloc: Global,
     failing_call: u64,
     room: usize,
     most: usize,
     failing_put: u64,
-) -> Result<(Status, Vec<u8>), Fail> {
+) -> Result<(Status, Vec<u8>, bool), Fail> {
     let words = certify(alloc, "a.c")?;
     let mut shelf = MemShelf::new(alloc);
     shelf.set("a.c", ABORTS.as_bytes())?;
@@ -130,7 +160,11 @@ fn faults(
     let mut out = MemSink::new(alloc, room, most)?;
     out.fail(failing_put)?;
     let status = run(alloc, &words, &mut shelf, &mut out);
-    Ok((status, out.taken().to_vec(alloc)?))
+    let unchanged = match shelf.contents("a.c") {
+        Some(held) => held == ABORTS.as_bytes(),
+        None => false,
+    };
+    Ok((status, out.taken().to_vec(alloc)?, unchanged))
 }
 
 #[test]
@@ -148,8 +182,9 @@ fn devices_fail(rt: HostRuntime) -> Result<(), Fail> {
         (0, 11, 4, 0, Status::WriteFault, "findings: 0"),
     ];
     for (failing_call, room, most, failing_put, status, put) in cases {
-        let (ended, taken) = faults(alloc, failing_call, room, most, failing_put)?;
+        let (ended, taken, unchanged) = faults(alloc, failing_call, room, most, failing_put)?;
         assert_eq!(rt; ended, status, "{failing_call} {room} {most} {failing_put}");
+        assert!(rt; unchanged, "{failing_call} {room} {most} {failing_put}");
         assert_eq!(rt;
             taken.as_slice(),
             put.as_bytes(),

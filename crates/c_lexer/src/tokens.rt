@@ -1,48 +1,77 @@
-ghost use Rattle.std.specs.Prelude.{◌≡◌, length, slice_get};
+//! The tokens of a text.
+
+ghost use Rattle.std.specs.Prelude.{◌≡◌, ◌-◌, ◌≤◌, ◌∷◌, ◌++◌, [], length, slice_get, None, Some, if◌then◌else◌, nat_eq};
 ghost use Rattle.std.specs.Option.{option_copied};
 
-use base_core::Token;
+use base_core::{Place, Token};
+use indexmap::IndexSet;
 use std::marker::Model;
 
-/// The tokens of a text. A contract sees them as a record of `specs/Scanned.antt`.
-#[derive(Debug, Drop)]
+/// The tokens of a text, with their places, the place of its end and the files that its line markers name. Contracts
+/// see the record `Lexis` of `specs/Lexis.antt`.
+#[derive(Drop)]
 pub struct Tokens {
-    tokens: Vec<Token>,
+    pub(crate) tokens: Vec<Token>,
+    pub(crate) places: Vec<Place>,
+    pub(crate) end: Place,
+    pub(crate) files: IndexSet<String>,
 }
 
 impl Model for Tokens {
-    ghost use Rattle.c_lexer.specs.Scanned.{Scanned};
+    ghost use Rattle.std.specs.Prelude.{◌≡◌, map, string_bytes, vec_len};
+    ghost use Rattle.c_lexer.specs.Lexis.{Lexis};
 
-    ghost Value = { Scanned };
+    ghost Value = { Lexis };
 
-    ghost view = { λ t. record { tokens = t.tokens.items } };
+    ghost view = { λ t. record { tokens = t.tokens.items; places = t.places.items; end = t.end; files = map string_bytes t.files.keys } };
+
+    ghost invariant = { λ t. vec_len t.places ≡ vec_len t.tokens };
 }
 
 impl Tokens {
-    pub(crate) fn new(tokens: Vec<Token>) -> Self
-        ensures { result.tokens ≡ tokens.items }
-    {
-        Tokens { tokens }
-    }
-
-    /// How many there are.
+    /// How many tokens there are.
     pub fn len(&self) -> usize
         ensures { result ≡ length self.now.tokens }
     {
         self.tokens.len()
     }
 
-    /// The k-th, from 0; None exactly from their number on.
+    /// All tokens, in order of the text.
+    pub fn as_slice(&self) -> &[Token]
+        ensures { result.now ≡ self.now.tokens }
+    {
+        &self.tokens
+    }
+
+    /// The k-th token, from 0; None exactly from their number on.
     pub fn token(&self, k: usize) -> Option<&Token>
         ensures { option_copied result ≡ slice_get self.now.tokens k }
     {
         self.tokens.get(k)
     }
 
-    /// All of them, in order.
-    pub fn as_slice(&self) -> &[Token]
-        ensures { result.now ≡ self.now.tokens }
+    /// The place of the k-th token, and for their number that of the end of the text.
+    pub fn place(&self, k: usize) -> Place
+        requires { k ≤ length self.now.tokens }
+        ensures { slice_get (self.now.places ++ self.now.end ∷ []) k ≡ Some result }
     {
-        &self.tokens
+        if k < self.places.len() {
+            self.places[k]
+        } else {
+            self.end
+        }
+    }
+
+    /// The name of a file; None exactly where the number is 0 or above the number of files.
+    pub fn file(&self, n: u32) -> Option<&str>
+        ensures { option_copied result ≡ (if nat_eq n 0 then None else slice_get self.now.files (n - 1)) }
+    {
+        if n == 0 {
+            return None;
+        }
+        match self.files.get_index(n as usize - 1) {
+            Some(name) => Some(name.as_str()),
+            None => None,
+        }
     }
 }

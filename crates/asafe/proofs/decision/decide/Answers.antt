@@ -4,10 +4,9 @@ use Rattle.asafe.proofs.decision.decide.Goals as goal
 
 pub returns-then-are_safe : goal.returns-then-are_safe
 returns-then-are_safe c =
-    keeps c.args.text.now c.in-Ok.tokens.tokens c.in-Ok-parse.program
+    keeps c.args.text.now c.in-Ok.tokens c.in-Ok-parse.program
     (record {
-      tokens_of = c.in-Ok.ensures.tokens;
-      only_tokens = c.in-Ok.ensures.only;
+      lexed = c.in-Ok.ensures.exact;
       flat = c.in-Ok-parse.ensures.shaped;
       spelled = c.in-Ok-parse.ensures.spelled;
       only_tree = c.in-Ok-parse.ensures.only;
@@ -15,10 +14,9 @@ returns-then-are_safe c =
 
 pub returns-in-Ok-parse : goal.returns-in-Ok-parse
 returns-in-Ok-parse c =
-    refuses c.args.text.now c.in-Ok.tokens.tokens c.in-Ok-parse.program
+    refuses c.args.text.now c.in-Ok.tokens c.in-Ok-parse.program
     (record {
-      tokens_of = c.in-Ok.ensures.tokens;
-      only_tokens = c.in-Ok.ensures.only;
+      lexed = c.in-Ok.ensures.exact;
       flat = c.in-Ok-parse.ensures.shaped;
       spelled = c.in-Ok-parse.ensures.spelled;
       only_tree = c.in-Ok-parse.ensures.only;

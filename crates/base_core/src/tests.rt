@@ -164,7 +164,7 @@ fn a_sink_fails_as_planned(rt: HostRuntime) -> Result<(), Fail> {
 }
 
 #[test]
-fn the_shelf_of_files_counts_its_failures(rt: HostRuntime) -> Result<(), Fail> {
+fn the_shelf_of_files_tells_its_failures(rt: HostRuntime) -> Result<(), Fail> {
     let alloc = rt.alloc();
     let mut shelf = FileShelf::new(&rt);
     shelf.write(alloc, "/dev/null", b"int")?;

@@ -6,3 +6,5 @@ pub mod MemSink
 pub mod Texts
 pub mod PlannedFailures
 pub mod MemShelf
+pub mod FileShelf
+pub mod StdSink

@@ -1,5 +1,5 @@
 -- The state of a sink in memory.
-use Rattle.std.specs.Prelude.{ℕ, List, ◌+◌, ◌-◌, ◌^◌, min}
+use Rattle.std.specs.Prelude.{ℕ, List}
 
 pub record SinkState : Type 0 where
   -- the bytes taken
@@ -12,7 +12,3 @@ pub record SinkState : Type 0 where
   pub planned : List ℕ
   -- how often it has failed
   pub faults : ℕ
-
--- a count, one higher, which stands still at the last value of a u64
-abbrev pub raised : ℕ → ℕ
-raised count = min (count + 1) (2 ^ 64 - 1)

@@ -1,4 +1,4 @@
-ghost use Rattle.std.specs.Prelude.{◌≤◌, ◌∷◌, None, vec_len, IfOk};
+ghost use Rattle.std.specs.Prelude.{◌≡◌, ◌≤◌, ◌∷◌, None, vec_len, IfOk};
 
 use crate::{ReadError, Shelf, WriteError};
 use std::alloc::Global;
@@ -15,8 +15,13 @@ pub struct FileShelf<'a, R: Files> {
 }
 
 impl<'a, R: Files> FileShelf<'a, R> {
+    ghost use Rattle.base_core.specs.FileShelf.{failed_file_reads, failed_file_writes};
+
     /// The shelf over the files that `main` is given.
-    pub fn new(files: &'a R) -> Self {
+    pub fn new(files: &'a R) -> Self
+        ensures reads { failed_file_reads result ≡ 0 }
+        ensures writes { failed_file_writes result ≡ 0 }
+    {
         FileShelf {
             files,
             failed_reads: 0,

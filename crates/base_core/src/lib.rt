@@ -16,6 +16,8 @@ mod shelf;
 mod signal;
 mod sink;
 mod std_sink;
+#[cfg(test)]
+mod tests;
 mod token;
 
 pub use fault::{Failed, NoMemory};

@@ -1,6 +1,6 @@
 ghost use Rattle.std.specs.Prelude.{◌≡◌, ◌≢◌, ◌⊎◌, ◌≤◌, ◌∷◌, ◌++◌, List, [], ℕ, Option, Some, None, length, take, vec_len, is_some, IsSome, IfSome, IfOk, OnOk, OnErr, IsErr, IsErrOf};
 ghost use Rattle.std.specs.Option.{option_copied};
-ghost use Rattle.base_core.specs.Count.{Rose};
+ghost use Rattle.base_core.specs.Count.{Rose, raised};
 ghost use Rattle.base_core.specs.PlannedFailures.{kept_at, one_nearer};
 ghost use Rattle.base_core.specs.Texts.{bytes_of};
 ghost use Rattle.base_core.specs.Contents.{Contents, text_of, Lacks, IsOverLimit, Holds, HoldsPrefix};
@@ -172,6 +172,11 @@ impl Shelf for MemShelf {
         ensures planned { IsSome (kept_at (planned self.old) 1) → IsErrOf result ReadError.Failed }
         ensures nearer { planned self.new ≡ one_nearer (planned self.old) }
         ensures succeeds { OnErr result ((kept_at (planned self.old) 1 ≡ None) → (failed_reads_of self.new ≡ failed_reads_of self.old)) }
+
+        // It doesn't fail but by plan and at an absent name, and what is planned alone is counted.
+        ensures unplanned { kept_at (planned self.old) 1 ≡ None → IsErrOf result ReadError.Failed → held self.old name.now ≡ None }
+        ensures counted { IsSome (kept_at (planned self.old) 1) → failed_reads_of self.new ≡ raised (failed_reads_of self.old) }
+        ensures uncounted { OnOk result (failed_reads_of self.new ≡ failed_reads_of self.old) }
     {
         if take_failure(&mut self.planned).is_some() {
             self.failed_reads = self.failed_reads.saturating_add(1);
@@ -201,6 +206,11 @@ impl Shelf for MemShelf {
         ensures kept { IsErrOf result WriteError.Failed → IfSome (kept_at (planned self.old) 1) (λ kept. held self.new name.now ≡ Some (take kept bytes.now)) }
         ensures nearer { planned self.new ≡ one_nearer (planned self.old) }
         ensures succeeds { kept_at (planned self.old) 1 ≡ None → OnErr result (IsErrOf result WriteError.NoMemory) }
+
+        // Each failure of the device is counted, and nothing else is.
+        ensures counted { IsErrOf result WriteError.Failed → failed_writes_of self.new ≡ raised (failed_writes_of self.old) }
+        ensures uncounted { OnOk result (failed_writes_of self.new ≡ failed_writes_of self.old) }
+        ensures no_memory { IsErrOf result WriteError.NoMemory → failed_writes_of self.new ≡ failed_writes_of self.old }
     {
         match take_failure(&mut self.planned) {
             Some(kept) => {

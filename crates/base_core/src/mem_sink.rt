@@ -1,7 +1,6 @@
 ghost use Rattle.std.specs.Prelude.{◌≡◌, ◌≢◌, ◌↔◌, ◌⊎◌, ◌-◌, ◌<◌, ◌≤◌, ◌∷◌, ◌++◌, List, [], ℕ, Option, Some, length, take, map, min, IsTrue, IsErr, IfOk, OnOk, OnErr, Contains};
-ghost use Rattle.base_core.specs.Count.{Rose};
+ghost use Rattle.base_core.specs.Count.{Rose, raised};
 ghost use Rattle.base_core.specs.Taken.{appended};
-ghost use Rattle.base_core.specs.MemSink.{raised};
 
 use crate::{Failed, NoMemory, Sink};
 use std::alloc::Global;
@@ -110,6 +109,11 @@ impl Sink for MemSink {
         ensures full { 0 < length bytes.now → self.old.room ≤ length self.old.taken → IsErr result }
         ensures takes { OnErr result (Contains self.old.planned 1 ⊎ (self.old.room ≤ length self.old.taken)) }
         ensures much { 0 < length bytes.now → IfOk result (λ n. n ≡ min (min (length bytes.now) (self.old.room - length self.old.taken)) self.old.most) }
+
+        // Each failure is counted, and nothing else is.
+        ensures counted { OnErr result (self.new.faults ≡ raised self.old.faults) }
+        ensures stuck_counted { result ≡ Ok 0 → 0 < length bytes.now → self.new.faults ≡ raised self.old.faults }
+        ensures uncounted { IfOk result (λ n. 0 < n → self.new.faults ≡ self.old.faults) }
 
         ensures nearer { 0 < length bytes.now → self.new.planned ≡ map (λ left. left - 1) self.old.planned }
         ensures unchanged { bytes.now ≡ [] → self.new ≡ self.old }

@@ -1,4 +1,4 @@
-ghost use Rattle.std.specs.Prelude.{◌≤◌, None, length, IfOk};
+ghost use Rattle.std.specs.Prelude.{◌≡◌, ◌≤◌, None, length, IfOk};
 
 use crate::{Failed, Sink};
 use std::io;
@@ -12,8 +12,12 @@ pub struct StdSink<'a, P: Print> {
 }
 
 impl<'a, P: Print> StdSink<'a, P> {
+    ghost use Rattle.base_core.specs.StdSink.{output_faults};
+
     /// The sink over the standard output that `main` is given.
-    pub fn new(out: &'a P) -> Self {
+    pub fn new(out: &'a P) -> Self
+        ensures { output_faults result ≡ 0 }
+    {
         StdSink { out, faults: 0 }
     }
 }

@@ -12,5 +12,7 @@ mod head;
 mod program;
 mod shape;
 mod statement;
+#[cfg(test)]
+mod tests;
 
 pub use program::{ParseFault, parse};

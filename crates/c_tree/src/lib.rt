@@ -6,5 +6,7 @@
 #![tactic(auto)]
 
 mod flat;
+#[cfg(test)]
+mod tests;
 
 pub use flat::{FlatProgram, Handler, LibraryFunction, Statement};

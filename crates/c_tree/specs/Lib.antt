@@ -2,3 +2,8 @@ pub mod FlatTree
 pub mod FlatSpelling
 pub mod FlatShape
 pub mod FlatCondition
+pub mod Tree
+pub mod View
+pub mod StatementView
+pub mod Marks
+pub mod Spelling

@@ -6,5 +6,11 @@
 #![tactic(auto)]
 
 mod flat;
+mod tree;
 
 pub use flat::{FlatProgram, Handler, LibraryFunction, Statement};
+pub use tree::{
+    AssignOp, Bare, BinaryOp, Decl, Declarator, Enumerator, Expr, ForStart, Function, Init,
+    InitList, Item, Member, Named, ParamForm, Parameter, Params, Part, Qual, Quals, SpecWord,
+    Specs, Stars, StepOp, Stmt, Storage, TypeName, UnaryOp,
+};

@@ -1,5 +1,5 @@
 -- Which trees are flat programs.
-use Rattle.std.specs.Prelude.{◌≢◌, ℕ, ◌+◌, ◌≤◌, List, [], ◌∷◌, length, map, All, AllPairs, Contains}
+use Rattle.std.specs.Prelude.{◌≡◌, ◌≢◌, ℕ, ◌+◌, ◌≤◌, List, [], ◌∷◌, length, map, All, AllPairs, Contains}
 use Rattle.c_tree.specs.declared.flat.Statement.{Statement}
 use Rattle.c_tree.specs.declared.flat.Statement.TheVariants.{Call, Install}
 use Rattle.c_tree.specs.FlatTree.{HandlerTree, FlatTree}

@@ -7,3 +7,11 @@ pub mod View
 pub mod StatementView
 pub mod Marks
 pub mod Spelling
+pub mod DeclaredNames
+pub mod TypeWords
+pub mod ExpressionShape
+pub mod Shape
+pub mod Nodes
+pub mod Depth
+pub mod Limits
+pub mod EqualSpellings

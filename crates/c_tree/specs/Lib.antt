@@ -15,3 +15,7 @@ pub mod Nodes
 pub mod Depth
 pub mod Limits
 pub mod EqualSpellings
+pub mod ProgramTree
+pub mod Search
+pub mod Progress
+pub mod Passing

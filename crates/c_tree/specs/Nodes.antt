@@ -1,7 +1,7 @@
 -- The nodes of a program, in preorder: a node stands before its parts, which come in order of the text. The members and
 -- enumerators that stand in specifiers are parts of the innermost node that holds the specifiers, and so are the parts of
 -- a parameter without a name, which is no node.
-use Rattle.std.specs.Prelude.{List, [], ◌∷◌, ◌++◌, Option, Some, None, Bool}
+use Rattle.std.specs.Prelude.{List, [], ◌∷◌, ◌++◌, Option, Some, None, Bool, true, false}
 use Rattle.c_tree.specs.Tree.{Name, Expression, comma, assign, choose, binary, cast, unary, before, size_of, size_of_type, index, call, dot, arrow, after, name, integer, character, text, paren, Expressions, no_expressions, expressions, Sizes, no_sizes, open_size, size, TypeTree, typed, Specifiers, no_specifiers, specifiers, Specifier, struct_of, enum_of, Members, no_members, member, Declarators, no_declarators, declarators, Enumerators, no_enumerators, enumerator, enumerator_with, DeclaratorTree, plain, array, function, pointer, Parameters, no_parameters, parameters, ParameterForm, named_form, bare_form, BareTree, bare_stars, bare_pointer, Initializer, single, listed, Initializers, no_initializers, initializers, NamedTree, DeclarationTree, ForStartTree, start_declaration, start_expression, StatementTree, block, declaration, expression_statement, if_statement, if_else_statement, while_statement, do_statement, for_statement, switch_statement, case_label, default_label, named_label, break_statement, continue_statement, return_statement, goto_statement, Statements, no_statements, statements, FunctionTree, ItemTree, function_item, declaration_item}
 
 pub data Node : Type 0 where
@@ -15,6 +15,10 @@ pub data Node : Type 0 where
   initializers_node : Initializers → Bool → Node
   statement_node : StatementTree → Node
   expression_node : Expression → Node
+
+abbrev pub is_function : Node → Bool
+is_function (function_node f) = true
+is_function _ = false
 
 abbrev mutual
   pub nodes_expression : Expression → List Node

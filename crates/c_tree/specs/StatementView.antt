@@ -2,10 +2,15 @@
 use Rattle.std.specs.Prelude.{ℕ, List, [], ◌∷◌, map, Option, Some, None, option_map, Bool}
 use Rattle.c_tree.specs.Tree as c
 use Rattle.c_tree.specs.Tree.{Initializer, Initializers, no_initializers, initializers, StatementTree, Statements, no_statements, statements}
-use Rattle.c_tree.specs.View.{view_expression, view_specifier, view_declarator, specifiers_of}
+use Rattle.c_tree.specs.View.{view_expression, view_specifier, view_declarator, view_parameters, specifiers_of}
 use Rattle.c_tree.specs.declared.tree.Init.{Init as Written, fold-Init}
 use Rattle.c_tree.specs.declared.tree.Init.TheOpen.{Init-F, InitList-F, Part-F}
+use Rattle.c_tree.specs.declared.tree.InitList.{InitList, fold-InitList}
+use Rattle.c_tree.specs.declared.tree.Part.{Part, fold-Part}
 use Rattle.c_tree.specs.declared.tree.Named.{Named}
+use Rattle.c_tree.specs.declared.tree.Function.{Function}
+use Rattle.c_tree.specs.declared.tree.Item.{Item}
+use Rattle.c_tree.specs.declared.tree.Item.TheVariants as item
 use Rattle.c_tree.specs.declared.tree.Decl.{Decl}
 use Rattle.c_tree.specs.declared.tree.ForStart.{ForStart}
 use Rattle.c_tree.specs.declared.tree.ForStart.TheVariants as start
@@ -34,6 +39,12 @@ initializer_step p = (p.name, p.init)
 
 abbrev pub view_init : Written → Initializer
 view_init = fold-Init Initializer AtInitializers AtInitializer init_step list_step initializer_step
+
+abbrev pub view_list : InitList → AtInitializers
+view_list = fold-InitList Initializer AtInitializers AtInitializer init_step list_step initializer_step
+
+abbrev pub view_part : Part → AtInitializer
+view_part = fold-Part Initializer AtInitializers AtInitializer init_step list_step initializer_step
 
 abbrev pub view_named : Named → c.NamedTree
 view_named n = record { declarator = view_declarator n.declarator; init = option_map view_init n.init }
@@ -73,3 +84,18 @@ view_statement = fold-Stmt StatementTree statement_step
 abbrev pub if_tree : c.Expression → StatementTree → Option StatementTree → StatementTree
 if_tree e s None = c.if_statement e s
 if_tree e s (Some o) = c.if_else_statement e s o
+
+abbrev pub view_function : Function → c.FunctionTree
+view_function f = record {
+  storage = f.storage;
+  specs = specifiers_of (map view_specifier f.specs);
+  stars = f.stars;
+  name = f.name;
+  params = (view_parameters f.params).0;
+  word = (view_parameters f.params).1;
+  body = view_statement f.body
+}
+
+abbrev pub view_item : Item → c.ItemTree
+view_item (item.Function f) = c.function_item (view_function f)
+view_item (item.Decl d) = c.declaration_item (view_declaration d)

@@ -7,6 +7,12 @@ use Rattle.c_tree.specs.declared.tree.TypeName.{TypeName, fold-TypeName}
 use Rattle.c_tree.specs.declared.tree.SpecWord.{SpecWord, fold-SpecWord}
 use Rattle.c_tree.specs.declared.tree.Bare.TheOpen.{Bare-F, Declarator-F, Expr-F, ParamForm-F, SpecWord-F, Enumerator-F, Member-F, Parameter-F, Params-F, TypeName-F}
 use Rattle.c_tree.specs.declared.tree.Declarator.{Declarator as Written, fold-Declarator}
+use Rattle.c_tree.specs.declared.tree.Bare.{Bare, fold-Bare}
+use Rattle.c_tree.specs.declared.tree.ParamForm.{ParamForm, fold-ParamForm}
+use Rattle.c_tree.specs.declared.tree.Enumerator.{Enumerator, fold-Enumerator}
+use Rattle.c_tree.specs.declared.tree.Member.{Member, fold-Member}
+use Rattle.c_tree.specs.declared.tree.Parameter.{Parameter, fold-Parameter}
+use Rattle.c_tree.specs.declared.tree.Params.{Params, fold-Params}
 
 abbrev pub expressions_of : List Expression → Expressions
 expressions_of [] = no_expressions
@@ -130,4 +136,28 @@ view_specifier = fold-SpecWord BareTree DeclaratorTree Expression ParameterForm 
 
 abbrev pub view_declarator : Written → DeclaratorTree
 view_declarator = fold-Declarator BareTree DeclaratorTree Expression ParameterForm Specifier AtEnumerator AtMember AtParameter AtParameters TypeTree
+    bare_step declarator_step expression_step form_step specifier_step enumerator_step member_step parameter_step parameters_step type_step
+
+abbrev pub view_bare : Bare → BareTree
+view_bare = fold-Bare BareTree DeclaratorTree Expression ParameterForm Specifier AtEnumerator AtMember AtParameter AtParameters TypeTree
+    bare_step declarator_step expression_step form_step specifier_step enumerator_step member_step parameter_step parameters_step type_step
+
+abbrev pub view_form : ParamForm → ParameterForm
+view_form = fold-ParamForm BareTree DeclaratorTree Expression ParameterForm Specifier AtEnumerator AtMember AtParameter AtParameters TypeTree
+    bare_step declarator_step expression_step form_step specifier_step enumerator_step member_step parameter_step parameters_step type_step
+
+abbrev pub view_enumerator : Enumerator → AtEnumerator
+view_enumerator = fold-Enumerator BareTree DeclaratorTree Expression ParameterForm Specifier AtEnumerator AtMember AtParameter AtParameters TypeTree
+    bare_step declarator_step expression_step form_step specifier_step enumerator_step member_step parameter_step parameters_step type_step
+
+abbrev pub view_member : Member → AtMember
+view_member = fold-Member BareTree DeclaratorTree Expression ParameterForm Specifier AtEnumerator AtMember AtParameter AtParameters TypeTree
+    bare_step declarator_step expression_step form_step specifier_step enumerator_step member_step parameter_step parameters_step type_step
+
+abbrev pub view_parameter : Parameter → AtParameter
+view_parameter = fold-Parameter BareTree DeclaratorTree Expression ParameterForm Specifier AtEnumerator AtMember AtParameter AtParameters TypeTree
+    bare_step declarator_step expression_step form_step specifier_step enumerator_step member_step parameter_step parameters_step type_step
+
+abbrev pub view_parameters : Params → AtParameters
+view_parameters = fold-Params BareTree DeclaratorTree Expression ParameterForm Specifier AtEnumerator AtMember AtParameter AtParameters TypeTree
     bare_step declarator_step expression_step form_step specifier_step enumerator_step member_step parameter_step parameters_step type_step

@@ -6,9 +6,16 @@
 #![tactic(auto)]
 
 mod flat;
+mod node;
+mod program;
+mod search;
 mod tree;
+mod walk;
+mod walk_items;
 
 pub use flat::{FlatProgram, Handler, LibraryFunction, Statement};
+pub use node::NodeRef;
+pub use program::Program;
 pub use tree::{
     AssignOp, Bare, BinaryOp, Decl, Declarator, Enumerator, Expr, ForStart, Function, Init,
     InitList, Item, Member, Named, ParamForm, Parameter, Params, Part, Qual, Quals, SpecWord,

@@ -1,3 +1,4 @@
 pub mod Passing
 pub mod ViewLemmas
 pub mod Sizes
+pub mod Found

@@ -1,10 +1,10 @@
 -- A program as callers see it.
-use Rattle.std.specs.Prelude.{◌≡◌, ℕ, zero, suc, ◌<◌, ◌^◌, List, map, Option, Some, None, slice_get, length, take, count_by, All, IsUtf8}
+use Rattle.std.specs.Prelude.{◌≡◌, ℕ, zero, suc, ◌<◌, ◌^◌, List, map, Option, Some, None, slice_get, length, take, count_by, All, IsUtf8, if◌then◌else◌}
 use Rattle.base_core.specs.declared.place.Place.{Place}
 use Rattle.c_tree.specs.declared.tree.Item.{Item}
 use Rattle.c_tree.specs.Tree.{Name, ItemTree}
 use Rattle.c_tree.specs.StatementView.{view_item}
-use Rattle.c_tree.specs.Nodes.{Node, function_node, nodes, is_function}
+use Rattle.c_tree.specs.Nodes.{Node, nodes, is_function}
 
 -- its items, the place of each node's first token, the closing brace of each function, the end of the text, and the names
 -- of the files of line markers, from file 1 on
@@ -28,8 +28,8 @@ pub record IsPlaced (p : ProgramTree) : Type 0 where
 
 -- the closing brace of this node, the n-th, where it is a function
 abbrev pub close_of : Option Node → ProgramTree → ℕ → Option Place
-close_of (Some (function_node f)) p n = slice_get p.closes (count_by is_function (take n (nodes (trees p))))
-close_of _ p n = None
+close_of None p n = None
+close_of (Some x) p n = if is_function x then slice_get p.closes (count_by is_function (take n (nodes (trees p)))) else None
 
 -- the closing brace of the n-th node, where it is a function
 abbrev pub close_at : ProgramTree → ℕ → Option Place

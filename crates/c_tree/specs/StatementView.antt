@@ -93,7 +93,7 @@ view_function f = record {
   name = f.name;
   params = (view_parameters f.params).0;
   word = (view_parameters f.params).1;
-  body = view_statement f.body
+  body = view_statement f.body;
 }
 
 abbrev pub view_item : Item → c.ItemTree

@@ -1,3 +1,7 @@
+ghost use Rattle.std.specs.Prelude.{◌≡◌};
+ghost use Rattle.c_tree.specs.Nodes.{is_function};
+ghost use Rattle.c_tree.specs.Search.{seen};
+
 use crate::program::Program;
 use crate::tree::{Decl, Declarator, Enumerator, Expr, Function, InitList, Named, Parameter, Stmt};
 
@@ -15,4 +19,13 @@ pub enum NodeRef<'a> {
     Parts(&'a InitList),
     Stmt(&'a Stmt),
     Expr(&'a Expr),
+}
+
+impl<'a> NodeRef<'a> {
+    /// Whether it is a function.
+    pub fn is_function(&self) -> bool
+        ensures { result ≡ is_function (seen self.now) }
+    {
+        matches!(self, NodeRef::Function(_))
+    }
 }

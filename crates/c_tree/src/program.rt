@@ -1,9 +1,15 @@
-ghost use Rattle.std.specs.Prelude.{◌≡◌, slice_get, length};
+ghost use Rattle.std.specs.Prelude.{◌≡◌, None, option_map, slice_get, length};
 ghost use Rattle.std.specs.Option.{option_copied};
-ghost use Rattle.c_tree.specs.Nodes.{nodes};
+ghost use Rattle.c_tree.specs.Nodes.{nodes, program_node};
+ghost use Rattle.c_tree.specs.Passing.{pass_items};
+ghost use Rattle.c_tree.specs.Progress.{pass};
+ghost use Rattle.c_tree.specs.Search.{progress, seen};
 ghost use Rattle.c_tree.specs.ProgramTree.{ProgramTree, IsPlaced, trees, close_at, file_name};
 
+use crate::node::NodeRef;
+use crate::search::Search;
 use crate::tree::Item;
+use crate::walk_items::search_items;
 use base_core::{Lexeme, NodeId, Place};
 use sqlite_items::Items;
 use std::marker::Model;
@@ -74,6 +80,57 @@ impl Program {
         ensures { result ≡ slice_get self.now.places n.0 }
     {
         self.places.get(n.0 as usize).copied()
+    }
+
+    /// The closing brace of a function; None exactly where the node is no function.
+    pub fn close(&self, n: NodeId) -> Option<Place>
+        ensures { result ≡ close_at self.now n.0 }
+    {
+        let search = self.search(n);
+        match search.found {
+            Some(node) => {
+                if node.is_function() {
+                    self.closes.get(search.functions as usize).copied()
+                } else {
+                    None
+                }
+            }
+            None => None,
+        }
+    }
+
+    /// The node of this number; None exactly from the number of nodes on. It goes through the tree up to the node, and takes
+    /// the time of a walk.
+    pub fn node(&self, n: NodeId) -> Option<NodeRef<'_>>
+        ensures { option_map seen result ≡ slice_get (nodes (trees self.now)) n.0 }
+    {
+        let search = self.search(n);
+        search.found
+    }
+
+    fn search(&self, n: NodeId) -> Search<'_>
+        ensures { progress result ≡ pass_items (pass (record { left = n.0; functions = 0; found = None }) (program_node (trees self.now))) (trees self.now) }
+    {
+        let mut search = Search::new(n);
+        search.pass(NodeRef::Program(self));
+        search_items(self.items.as_slice(), &mut search);
+        search
+    }
+
+    /// The name of a file of line markers; None for file 0, which the command names, and for numbers not given.
+    pub fn file(&self, n: u32) -> Option<&str>
+        ensures { option_copied result ≡ file_name self.now.files n }
+    {
+        if n == 0 {
+            return None;
+        }
+        match self.files.get(n as usize - 1) {
+            Some(name) => match str::from_utf8(name.as_bytes()) {
+                Ok(text) => Some(text),
+                Err(_) => None,
+            },
+            None => None,
+        }
     }
 
     /// The end of the text.

@@ -1,4 +1,4 @@
-ghost use Rattle.std.specs.Prelude.{◌≡◌, map, option_map};
+ghost use Rattle.std.specs.Prelude.{◌≡◌, None, map, option_map};
 ghost use Rattle.c_tree.specs.Passing.{pass_expression, pass_expressions, pass_sizes, pass_type, pass_specifiers, pass_members, pass_declarators, pass_enumerators, pass_declarator, pass_parameters, pass_bare};
 ghost use Rattle.c_tree.specs.Progress.{pass};
 ghost use Rattle.c_tree.specs.Search.{progress, seen};
@@ -9,8 +9,20 @@ use crate::search::Search;
 use crate::tree::{
     Bare, Declarator, Enumerator, Expr, Member, ParamForm, Parameter, SpecWord, TypeName,
 };
+use base_core::NodeId;
 
 impl<'a> Search<'a> {
+    /// A search for the node of this number.
+    pub(crate) fn new(n: NodeId) -> Self
+        ensures { progress result ≡ record { left = n.0; functions = 0; found = None } }
+    {
+        Search {
+            left: n.0,
+            functions: 0,
+            found: None,
+        }
+    }
+
     /// Passes a node.
     #[tactic(auto, unfolding(crate::specs::Progress::pass))]
     pub(crate) fn pass(&mut self, node: NodeRef<'a>)

@@ -5,7 +5,7 @@ use Rattle.std.proofs.lemmas.List.Sums.{sum_by-cons}
 use Rattle.std.proofs.lemmas.Option.{slice_get_within, get_or_from_slice_get}
 use Rattle.c_tree.specs.ProgramTree.{ProgramTree, trees, close_of, close_at, file_name}
 use Rattle.c_tree.specs.Progress.{Progress, pass, pass_all, count_function}
-use Rattle.c_tree.specs.Nodes.{Node, is_function, program_node, nodes, nodes_items}
+use Rattle.c_tree.specs.Nodes.{Node, is_function, program_node, nodes}
 use Rattle.c_tree.specs.Passing.{pass_items}
 use Rattle.c_tree.specs.Tree.{Name, ItemTree}
 use Rattle.c_tree.proofs.Passing.{items_passes}

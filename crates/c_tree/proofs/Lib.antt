@@ -2,3 +2,5 @@ pub mod Passing
 pub mod ViewLemmas
 pub mod Sizes
 pub mod Found
+pub mod Examples
+pub mod Refusals

@@ -3,7 +3,7 @@ use Rattle.std.proofs.Common.{◌≡◌, List, [], ◌∷◌, ◌++◌, Option, 
 use Rattle.c_tree.specs.Progress.{Progress, pass, pass_all}
 use Rattle.c_tree.specs.Nodes.{Node, function_node, declaration_node, named_node, parameter_node, member_node, enumerator_node, initializers_node, statement_node, expression_node, nodes_expression, nodes_expressions, nodes_sizes, nodes_type, nodes_specifiers, nodes_specifier, nodes_members, nodes_declarators, nodes_enumerators, nodes_declarator, nodes_parameters, nodes_bare, nodes_init, nodes_initializers, nodes_statement, nodes_statements, nodes_form, nodes_optional_init, nodes_named, nodes_names, nodes_declaration, nodes_optional, nodes_start, nodes_function, nodes_item, nodes_items}
 use Rattle.c_tree.specs.Passing.{pass_expression, pass_expressions, pass_sizes, pass_type, pass_specifiers, pass_specifier, pass_members, pass_declarators, pass_enumerators, pass_declarator, pass_parameters, pass_bare, pass_init, pass_initializers, pass_statement, pass_statements, pass_form, pass_optional_init, pass_named, pass_names, pass_declaration, pass_optional, pass_start, pass_function, pass_item, pass_items}
-use Rattle.c_tree.specs.Tree.{Name, Expression, comma, assign, choose, binary, cast, unary, before, size_of, size_of_type, index, call, dot, arrow, after, name, integer, character, text, paren, Expressions, no_expressions, expressions, Sizes, no_sizes, open_size, size, TypeTree, typed, Specifiers, no_specifiers, specifiers, Specifier, struct_of, enum_of, Members, no_members, member, Declarators, no_declarators, declarators, Enumerators, no_enumerators, enumerator, enumerator_with, DeclaratorTree, plain, array, function, pointer, Parameters, no_parameters, parameters, ParameterForm, named_form, bare_form, BareTree, bare_stars, bare_pointer, Initializer, single, listed, Initializers, no_initializers, initializers, NamedTree, DeclarationTree, ForStartTree, start_declaration, start_expression, StatementTree, block, declaration, expression_statement, if_statement, if_else_statement, while_statement, do_statement, for_statement, switch_statement, case_label, default_label, named_label, break_statement, continue_statement, return_statement, goto_statement, Statements, no_statements, statements, FunctionTree, ItemTree, function_item, declaration_item}
+use Rattle.c_tree.specs.Tree.{Expression, comma, assign, choose, binary, cast, unary, before, size_of, size_of_type, index, call, dot, arrow, after, name, integer, character, text, paren, Expressions, no_expressions, expressions, Sizes, no_sizes, open_size, size, TypeTree, typed, Specifiers, no_specifiers, specifiers, Specifier, struct_of, enum_of, Members, no_members, member, Declarators, no_declarators, declarators, Enumerators, no_enumerators, enumerator, enumerator_with, DeclaratorTree, plain, array, function, pointer, Parameters, no_parameters, parameters, ParameterForm, named_form, bare_form, BareTree, bare_stars, bare_pointer, Initializer, single, listed, Initializers, no_initializers, initializers, NamedTree, DeclarationTree, ForStartTree, start_declaration, start_expression, StatementTree, block, declaration, expression_statement, if_statement, if_else_statement, while_statement, do_statement, for_statement, switch_statement, case_label, default_label, named_label, break_statement, continue_statement, return_statement, goto_statement, Statements, no_statements, statements, FunctionTree, ItemTree, function_item, declaration_item}
 
 pub pass_all_append : (p : Progress) (a b : List Node) → pass_all p (a ++ b) ≡ pass_all (pass_all p a) b
 pass_all_append p [] b = refl

@@ -1,6 +1,6 @@
 -- The arguments of a call are smaller than the call.
 use denote.Param.Weighed.{most}
-use Rattle.std.proofs.Common.{rules, arith, List, ◌<◌}
+use Rattle.std.proofs.Common.{arith, List, ◌<◌}
 use Rattle.c_tree.specs.declared.tree.Expr.{Expr}
 use Rattle.c_tree.specs.declared.tree.Expr.TheVariants as e
 use Rattle.c_tree.specs.declared.tree.Bare.TheViews.{sized-Call}

@@ -1,5 +1,5 @@
 -- What the values of the program stand for, variant by variant.
-use Rattle.std.proofs.Common.{◌≡◌, ℕ, List, [], ◌∷◌, Option, None, Some, Bool, map, refl, ap, sym, ◌∙◌}
+use Rattle.std.proofs.Common.{◌≡◌, List, [], ◌∷◌, Option, None, Some, Bool, map, refl, ap, sym, ◌∙◌}
 use Rattle.std.specs.Prelude.{option_map}
 use Rattle.base_core.specs.declared.lexeme.Lexeme.{Lexeme}
 use Rattle.c_tree.specs.Tree as c
@@ -17,14 +17,14 @@ use Rattle.c_tree.specs.declared.tree.Declarator.{Declarator, fold-roll-Declarat
 use Rattle.c_tree.specs.declared.tree.Declarator.TheVariants as d
 use Rattle.c_tree.specs.declared.tree.Bare.{Bare, fold-roll-Bare}
 use Rattle.c_tree.specs.declared.tree.Bare.TheVariants as b
-use Rattle.c_tree.specs.declared.tree.ParamForm.{ParamForm, fold-roll-ParamForm}
+use Rattle.c_tree.specs.declared.tree.ParamForm.{fold-roll-ParamForm}
 use Rattle.c_tree.specs.declared.tree.ParamForm.TheVariants as p
-use Rattle.c_tree.specs.declared.tree.SpecWord.{SpecWord, fold-roll-SpecWord}
+use Rattle.c_tree.specs.declared.tree.SpecWord.{fold-roll-SpecWord}
 use Rattle.c_tree.specs.declared.tree.SpecWord.TheVariants as w
 use Rattle.c_tree.specs.declared.tree.Params.{Params, out-Params, fold_out-Params}
 use Rattle.c_tree.specs.declared.tree.Parameter.{Parameter, out-Parameter, fold_out-Parameter}
 use Rattle.c_tree.specs.declared.tree.Member.{Member, out-Member, fold_out-Member}
-use Rattle.c_tree.specs.declared.tree.Enumerator.{Enumerator, out-Enumerator, fold_out-Enumerator}
+use Rattle.c_tree.specs.declared.tree.Enumerator.{Enumerator}
 use Rattle.c_tree.specs.declared.tree.TypeName.{TypeName, out-TypeName, fold_out-TypeName}
 use Rattle.c_tree.specs.declared.tree.Bare.TheShapes.{former-Declarator-Array-2-at-1}
 

@@ -1,5 +1,5 @@
 -- What references to nodes and searches stand for.
-use Rattle.std.specs.Prelude.{Option, option_map}
+use Rattle.std.specs.Prelude.{option_map}
 use Rattle.c_tree.specs.declared.node.NodeRef.{NodeRef}
 use Rattle.c_tree.specs.declared.node.NodeRef.TheVariants as r
 use Rattle.c_tree.specs.declared.search.Search.{Search}

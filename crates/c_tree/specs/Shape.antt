@@ -4,8 +4,8 @@ use Rattle.c_tree.specs.declared.tree.Storage.{Storage}
 use Rattle.c_tree.specs.declared.tree.Storage.TheVariants as st
 use Rattle.c_tree.specs.TypeWords.{built_in_types, IsOrdinary, NamesType, has_tag}
 use Rattle.c_tree.specs.ExpressionShape.{level, FitsWord, IsNotVoid, ShapeExpression, ShapeSpecifiers, ShapeDeclarator, ShapeParameters}
-use Rattle.c_tree.specs.DeclaredNames.{declarator_name, declared_inside, declared_specifiers, declared_named, declared_declaration, declared_function}
-use Rattle.c_tree.specs.Tree.{Name, Expression, comma, assign, choose, binary, cast, unary, before, size_of, size_of_type, index, call, dot, arrow, after, name, integer, character, text, paren, Expressions, no_expressions, expressions, Sizes, no_sizes, open_size, size, TypeTree, typed, Specifiers, no_specifiers, specifiers, Specifier, struct_of, enum_of, Members, no_members, member, Declarators, no_declarators, declarators, Enumerators, no_enumerators, enumerator, enumerator_with, DeclaratorTree, plain, array, function, pointer, Parameters, no_parameters, parameters, ParameterForm, named_form, bare_form, BareTree, bare_stars, bare_pointer, Initializer, single, listed, Initializers, no_initializers, initializers, NamedTree, DeclarationTree, ForStartTree, start_declaration, start_expression, StatementTree, block, declaration, expression_statement, if_statement, if_else_statement, while_statement, do_statement, for_statement, switch_statement, case_label, default_label, named_label, break_statement, continue_statement, return_statement, goto_statement, Statements, no_statements, statements, FunctionTree, ItemTree, function_item, declaration_item}
+use Rattle.c_tree.specs.DeclaredNames.{declarator_name, declared_inside, declared_specifiers, declared_named, declared_function}
+use Rattle.c_tree.specs.Tree.{Name, Expression, Specifiers, DeclaratorTree, function, Initializer, single, listed, Initializers, no_initializers, initializers, NamedTree, DeclarationTree, ForStartTree, start_declaration, start_expression, StatementTree, block, declaration, expression_statement, if_statement, if_else_statement, while_statement, do_statement, for_statement, switch_statement, case_label, default_label, named_label, break_statement, continue_statement, return_statement, goto_statement, Statements, no_statements, statements, FunctionTree, ItemTree, function_item, declaration_item}
 
 -- the names that a point of the text follows: those that are types, and those declared as anything else, of any scope
 pub record Scope : Type 0 where

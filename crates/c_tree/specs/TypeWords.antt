@@ -1,5 +1,5 @@
 -- The words that name a type: which names are types, and which specifiers stand together (C11 6.7.2, 6.7.8).
-use Rattle.std.specs.Prelude.{ℕ, ◌+◌, ◌*◌, List, [], ◌∷◌, ◌++◌, length, count_by, Bool, true, false, ◌&&◌, nat_le, IsTrue, IsFalse, bytes_eq, codes}
+use Rattle.std.specs.Prelude.{◌+◌, ◌*◌, List, [], ◌∷◌, ◌++◌, length, count_by, Bool, true, false, ◌&&◌, nat_le, IsTrue, IsFalse, bytes_eq, codes}
 use Rattle.std.specs.List.{list_any, list_all}
 use Rattle.c_tree.specs.Tree.{Name, Specifiers, no_specifiers, specifiers, Specifier, const_word, volatile_word, void_word, char_word, short_word, int_word, long_word, signed_word, unsigned_word, type_name, struct_tag, struct_of, enum_tag, enum_of}
 

@@ -1,6 +1,6 @@
 use denote.Param.Weighed.{most}
 use Rattle.c_tree.proofs.tree.Expr.TheLaws.{the_size}
-use Rattle.std.proofs.Common.{rules, arith, ◌<◌, ◌≡◌, map, option_map, ap, sym, ◌∙◌}
+use Rattle.std.proofs.Common.{arith, map, option_map, ap, sym, ◌∙◌}
 use Rattle.c_tree.specs.Passing.{pass_declarator, pass_sizes, pass_parameters}
 use Rattle.c_tree.specs.Search.{progress}
 use Rattle.c_tree.specs.View.{view_declarator, view_expression, view_parameter, sizes_of, parameters_of}

@@ -1,4 +1,4 @@
-use Rattle.std.proofs.Common.{◌≡◌, option_map, slice_get, ap, sym, ◌∙◌}
+use Rattle.std.proofs.Common.{option_map, slice_get, ap, sym, ◌∙◌}
 use Rattle.c_tree.specs.ProgramTree.{ProgramTree}
 use Rattle.c_tree.specs.Search.{progress, seen}
 use Rattle.c_tree.proofs.Found.{close_function, close_other, close_none}

@@ -1,9 +1,10 @@
 -- What a search finds.
-use Rattle.std.proofs.Common.{◌≡◌, ℕ, zero, suc, ◌+◌, List, [], ◌∷◌, Option, Some, None, Bool, true, false, take, refl, ap, sym, ◌∙◌, ◌≤◌, ◌-◌, arith, sub-one, subst}
-use Rattle.std.specs.Prelude.{slice_get, count_by, cond, All, IsUtf8}
+use Rattle.std.proofs.Common.{◌≡◌, ℕ, zero, suc, ◌+◌, List, [], ◌∷◌, Option, Some, None, Bool, true, false, take, refl, ap, sym, ◌∙◌, ◌≤◌, ◌<◌, ◌-◌, length, arith, sub-one, subst}
+use Rattle.std.specs.Prelude.{slice_get, count_by, cond, All, IsUtf8, is_some}
 use Rattle.std.proofs.lemmas.List.Sums.{sum_by-cons}
 use Rattle.std.proofs.lemmas.Option.{slice_get_within, get_or_from_slice_get}
-use Rattle.c_tree.specs.ProgramTree.{ProgramTree, trees, close_of, close_at, file_name}
+use Rattle.base_core.specs.declared.place.Place.{Place}
+use Rattle.c_tree.specs.ProgramTree.{ProgramTree, IsPlaced, is_function_node, is_function_at, trees, close_of, close_at, file_name}
 use Rattle.c_tree.specs.Progress.{Progress, pass, pass_all, count_function}
 use Rattle.c_tree.specs.Nodes.{Node, is_function, program_node, nodes}
 use Rattle.c_tree.specs.Passing.{pass_items}
@@ -92,3 +93,31 @@ pub file_text : (files : List Name) (k : ℕ) (x : Name) → All IsUtf8 files �
 file_text files k x all e =
     let P : Name → Type 0 = λ n. IsUtf8 n in
     subst P (get_or_from_slice_get files k x x e) (all k x (slice_get_within files k x e))
+
+less_functions : (n : ℕ) (ns : List Node) (x : Node) → slice_get ns n ≡ Some x → is_function x ≡ true → count_by is_function (take n ns) < count_by is_function ns
+less_functions n [] x e f = cc
+less_functions zero (y ∷ ns) x e f =
+    let same : y ≡ x = cc in
+    let one : ◌≡◌ {A = ℕ} (cond (is_function y) 1 0) 1 = ap (λ b. cond {A = ℕ} b 1 0) (ap is_function same ∙ f) in
+    omega (arith, one, sum_by-cons (λ x. cond (is_function x) 1 0) y ns)
+less_functions (suc n) (y ∷ ns) x e f =
+    omega (arith, less_functions n ns x e f, sum_by-cons (λ x. cond (is_function x) 1 0) y ns, sum_by-cons (λ x. cond (is_function x) 1 0) y (take n ns))
+
+some_within : (xs : List Place) (k : ℕ) → k < length xs → is_some (slice_get xs k) ≡ true
+some_within [] k h = absurd (omega (arith, h))
+some_within (x ∷ xs) zero h = refl
+some_within (x ∷ xs) (suc k) h = some_within xs k (omega (arith, h))
+
+chosen_brace : (p : ProgramTree) (n : ℕ) (x : Node) (b : Bool) → is_function x ≡ b → (is_function x ≡ true → is_some (slice_get p.closes (count_by is_function (take n (nodes (trees p))))) ≡ true) →
+    is_some (cond b (slice_get p.closes (count_by is_function (take n (nodes (trees p))))) None) ≡ b
+chosen_brace p n x true e h = h e
+chosen_brace p n x false e h = refl
+
+brace_of : (p : ProgramTree) → IsPlaced p → (n : ℕ) (o : Option Node) → slice_get (nodes (trees p)) n ≡ o → is_some (close_of o p n) ≡ is_function_node o
+brace_of p placed n None e = refl
+brace_of p placed n (Some x) e =
+    chosen_brace p n x (is_function x) refl (λ f. some_within p.closes (count_by is_function (take n (nodes (trees p)))) (omega (arith, less_functions n (nodes (trees p)) x e f, placed.closes)))
+
+-- a node has a closing brace where it is a function
+pub closes_functions : (p : ProgramTree) → IsPlaced p → (n : ℕ) → is_some (close_at p n) ≡ is_function_at p n
+closes_functions p placed n = brace_of p placed n (slice_get (nodes (trees p)) n) refl

@@ -4,3 +4,4 @@ pub mod Sizes
 pub mod Found
 pub mod Examples
 pub mod Refusals
+pub mod StatementViewLemmas

@@ -1,10 +1,10 @@
 -- What the values of the program stand for, variant by variant.
-use Rattle.std.proofs.Common.{◌≡◌, List, [], ◌∷◌, Option, None, Some, Bool, map, refl, ap, sym, ◌∙◌}
+use Rattle.std.proofs.Common.{◌≡◌, ℕ, List, [], ◌∷◌, Option, None, Some, Bool, map, refl, ap, sym, ◌∙◌}
 use Rattle.std.specs.Prelude.{option_map}
 use Rattle.base_core.specs.declared.lexeme.Lexeme.{Lexeme}
 use Rattle.c_tree.specs.Tree as c
 use Rattle.c_tree.specs.Tree.{Expression, ParameterForm, Specifier, DeclaratorTree, BareTree, TypeTree}
-use Rattle.c_tree.specs.View.{view_expression, view_type, view_specifier, view_declarator, view_bare, view_form, view_enumerator, view_member, view_parameter, view_parameters, expressions_of, sizes_of, specifiers_of, members_of, declarators_of, enumerators_of, parameters_of, AtEnumerator, AtMember, AtParameter, AtParameters, bare_step, declarator_step, expression_step, form_step, specifier_step, enumerator_step, member_step, parameter_step, parameters_step, type_step}
+use Rattle.c_tree.specs.View.{view_expression, view_type, view_specifier, view_declarator, view_bare, view_form, view_enumerator, view_enumerator, view_member, view_parameter, view_parameters, expressions_of, sizes_of, specifiers_of, members_of, declarators_of, enumerators_of, parameters_of, AtEnumerator, AtMember, AtParameter, AtParameters, bare_step, declarator_step, expression_step, form_step, specifier_step, enumerator_step, member_step, parameter_step, parameters_step, type_step}
 use Rattle.c_tree.specs.declared.tree.Bare.TheOpen.{Bare-F, Declarator-F, Expr-F, ParamForm-F, SpecWord-F}
 use Rattle.c_tree.specs.declared.tree.Qual.{Qual}
 use Rattle.c_tree.specs.declared.tree.AssignOp.{AssignOp}
@@ -24,9 +24,9 @@ use Rattle.c_tree.specs.declared.tree.SpecWord.TheVariants as w
 use Rattle.c_tree.specs.declared.tree.Params.{Params, out-Params, fold_out-Params}
 use Rattle.c_tree.specs.declared.tree.Parameter.{Parameter, out-Parameter, fold_out-Parameter}
 use Rattle.c_tree.specs.declared.tree.Member.{Member, out-Member, fold_out-Member}
-use Rattle.c_tree.specs.declared.tree.Enumerator.{Enumerator}
+use Rattle.c_tree.specs.declared.tree.Enumerator.{Enumerator, out-Enumerator, fold_out-Enumerator}
 use Rattle.c_tree.specs.declared.tree.TypeName.{TypeName, out-TypeName, fold_out-TypeName}
-use Rattle.c_tree.specs.declared.tree.Bare.TheShapes.{former-Declarator-Array-2-at-1}
+use Rattle.c_tree.specs.declared.tree.Bare.TheShapes.{former-Enumerator-value, former-Declarator-Array-2-at-1}
 
 -- an optional expression of a list of sizes
 abbrev optional_size : Option Expr → Option Expression
@@ -300,3 +300,16 @@ view_Member ps = fold_out-Member BareTree DeclaratorTree Expression ParameterFor
 pub view_TypeName : (ps : TypeName) → view_type ps ≡ c.typed (specifiers_of (map view_specifier (out-TypeName ps).specs)) (view_bare (out-TypeName ps).bare)
 view_TypeName ps = fold_out-TypeName BareTree DeclaratorTree Expression ParameterForm Specifier AtEnumerator AtMember AtParameter AtParameters TypeTree
     bare_step declarator_step expression_step form_step specifier_step enumerator_step member_step parameter_step parameters_step type_step ps
+
+enumerator_value : (v : Option Expr) → (former-Enumerator-value).map Expr Expression view_expression v ≡ option_map view_expression v
+enumerator_value None = refl
+enumerator_value (Some x) = refl
+
+abbrev with_value : List ℕ → Option Expression → AtEnumerator
+with_value n v = (n, v)
+
+pub view_Enumerator : (ps : Enumerator) → view_enumerator ps ≡ ((out-Enumerator ps).name, option_map view_expression (out-Enumerator ps).value)
+view_Enumerator ps =
+    fold_out-Enumerator BareTree DeclaratorTree Expression ParameterForm Specifier AtEnumerator AtMember AtParameter AtParameters TypeTree
+    bare_step declarator_step expression_step form_step specifier_step enumerator_step member_step parameter_step parameters_step type_step ps
+    ∙ ap (with_value (out-Enumerator ps).name) (enumerator_value (out-Enumerator ps).value)

@@ -1,5 +1,5 @@
 -- A program as callers see it.
-use Rattle.std.specs.Prelude.{◌≡◌, ℕ, zero, suc, ◌<◌, ◌^◌, List, map, Option, Some, None, slice_get, length, take, count_by, All, IsUtf8, if◌then◌else◌}
+use Rattle.std.specs.Prelude.{◌≡◌, ℕ, zero, suc, ◌<◌, ◌^◌, List, map, Option, Some, None, Bool, false, slice_get, length, take, count_by, All, IsUtf8, if◌then◌else◌}
 use Rattle.base_core.specs.declared.place.Place.{Place}
 use Rattle.c_tree.specs.declared.tree.Item.{Item}
 use Rattle.c_tree.specs.Tree.{Name, ItemTree}
@@ -34,6 +34,14 @@ close_of (Some x) p n = if is_function x then slice_get p.closes (count_by is_fu
 -- the closing brace of the n-th node, where it is a function
 abbrev pub close_at : ProgramTree → ℕ → Option Place
 close_at p n = close_of (slice_get (nodes (trees p)) n) p n
+
+abbrev pub is_function_node : Option Node → Bool
+is_function_node None = false
+is_function_node (Some x) = is_function x
+
+-- the n-th node is a function
+abbrev pub is_function_at : ProgramTree → ℕ → Bool
+is_function_at p n = is_function_node (slice_get (nodes (trees p)) n)
 
 -- the name of a file: file 0 is the one that the command names, and has none here
 abbrev pub file_name : List Name → ℕ → Option Name

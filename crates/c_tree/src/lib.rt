@@ -1,12 +1,33 @@
 //! Syntax trees of the C subset, what each of them spells, and which of them have the shape that the grammar asks.
 //!
-//! Today it holds flat programs: signal handlers and a function `main` whose statements are calls of library functions
-//! and installs of handlers. It stands on `base_core`. The layer above makes the trees and reads their parts; contracts
-//! see a tree as a plain record of `specs/FlatTree.antt`.
+//! A [`Program`] is a tree of the whole grammar with the places of its parts. Contracts see a tree as plain data of
+//! `specs/Tree.antt`, through the views of `specs/View.antt` and `specs/StatementView.antt`; the lemmas that open a view,
+//! variant by variant, stand in `proofs/ViewLemmas.antt` and `proofs/StatementViewLemmas.antt`. `spell` of
+//! `specs/Spelling.antt` is the tokens of a program, `Shape` of `specs/Shape.antt` the conditions of the grammar,
+//! `WithinLimits` of `specs/Limits.antt` the limits, and `nodes` of `specs/Nodes.antt` the nodes in preorder. That two
+//! programs of that shape with equal spelling are equal is stated in `specs/EqualSpellings.antt`, and not proved here.
+//!
+//! A flat program, of `specs/FlatTree.antt`, is a list of signal handlers and a function `main` whose statements are calls
+//! of library functions and installs of handlers.
+//!
+//! It stands on `base_core`, and on the lists and boxes of `sqlite_items`.
 #![tactic(auto)]
 
 mod flat;
+mod node;
+mod program;
+mod search;
 #[cfg(test)]
 mod tests;
+mod tree;
+mod walk;
+mod walk_items;
 
 pub use flat::{FlatProgram, Handler, LibraryFunction, Statement};
+pub use node::NodeRef;
+pub use program::Program;
+pub use tree::{
+    AssignOp, Bare, BinaryOp, Decl, Declarator, Enumerator, Expr, ForStart, Function, Init,
+    InitList, Item, Member, Named, ParamForm, Parameter, Params, Part, Qual, Quals, SpecWord,
+    Specs, Stars, StepOp, Stmt, Storage, TypeName, UnaryOp,
+};

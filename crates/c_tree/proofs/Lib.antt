@@ -1,0 +1,7 @@
+pub mod Passing
+pub mod ViewLemmas
+pub mod Sizes
+pub mod Found
+pub mod Examples
+pub mod Refusals
+pub mod StatementViewLemmas

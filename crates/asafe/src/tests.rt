@@ -92,7 +92,10 @@ fn texts_are_decided(rt: HostRuntime) -> Result<(), Fail> {
         // Blanks, comments, `#include` lines and line markers between the tokens.
         ("int main(void){\treturn 0;}", Status::Yes),
         ("int/**/main(void)//\n{return 0;}", Status::Yes),
-        ("#include <signal.h>\r\nint main(void){return 0;}", Status::Yes),
+        (
+            "#include <signal.h>\r\nint main(void){return 0;}",
+            Status::Yes,
+        ),
         ("# 7 \"b.c\" 1\nint main(void){return 0;}", Status::Yes),
         // Tokens that no program of the first form has.
         ("int main(void){return 0x0;}", Status::NotYet),
@@ -126,8 +129,14 @@ fn faults_of_the_lexis_are_told(rt: HostRuntime) -> Result<(), Fail> {
     // Worked out by hand: a text, and the line that tells its first fault.
     let texts = [
         ("@", "a.c:1:1: not in the subset: BadByte\n"),
-        ("int main(void)\n{ return 0; } /* ", "a.c:2:15: not in the subset: OpenComment\n"),
-        ("int main(void){return 'a;}", "a.c:1:23: not in the subset: OpenLiteral\n"),
+        (
+            "int main(void)\n{ return 0; } /* ",
+            "a.c:2:15: not in the subset: OpenComment\n",
+        ),
+        (
+            "int main(void){return 'a;}",
+            "a.c:1:23: not in the subset: OpenLiteral\n",
+        ),
         (
             "int main(void){return 18446744073709551616;}",
             "a.c:1:23: not in the subset: NumberTooLarge\n",

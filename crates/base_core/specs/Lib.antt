@@ -8,3 +8,4 @@ pub mod PlannedFailures
 pub mod MemShelf
 pub mod FileShelf
 pub mod StdSink
+pub mod Lexeme

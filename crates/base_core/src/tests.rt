@@ -79,8 +79,15 @@ fn two_signals_cannot_be_caught(rt: HostRuntime) -> Result<(), Fail> {
 
 #[test]
 fn a_lexeme_keeps_its_bytes(rt: HostRuntime) -> Result<(), Fail> {
-    let lexeme = Lexeme::new(rt.alloc(), b"main")?;
-    assert_eq!(rt; lexeme.as_bytes(), b"main".as_slice());
+    let mut text = [0; 300];
+    for (index, byte) in text.iter_mut().enumerate() {
+        *byte = (index % 251) as u8;
+    }
+    for length in [0, 1, 14, 15, 300] {
+        let bytes = text.get(..length).ok_or("no such part")?;
+        let lexeme = Lexeme::new(rt.alloc(), bytes)?;
+        assert_eq!(rt; lexeme.as_bytes(), bytes, "{length}");
+    }
     Ok(())
 }
 

@@ -4,7 +4,7 @@ ghost use Rattle.asafe.specs.Text.{Decides};
 use crate::condition::are_safe;
 use base_core::NoMemory;
 use c_lexer::{LexFault, scan};
-use c_parser::{ParseFault, parse};
+use flat_parser::{FlatFault, read_flat};
 use std::alloc::Global;
 
 /// What is decided of a text.
@@ -30,7 +30,7 @@ pub(crate) fn decide(alloc: Global, text: &[u8]) -> Result<Decision, NoMemory>
         Err(LexFault::NoMemory) => return Err(NoMemory),
         Err(fault) => return Ok(Decision::Faulty(fault)),
     };
-    match parse(alloc, &tokens) {
+    match read_flat(alloc, &tokens) {
         Ok(program) => {
             if are_safe(&program) {
                 Ok(Decision::Accepted)
@@ -38,7 +38,7 @@ pub(crate) fn decide(alloc: Global, text: &[u8]) -> Result<Decision, NoMemory>
                 Ok(Decision::Refused)
             }
         }
-        Err(ParseFault::NotYet) => Ok(Decision::NotFlat),
-        Err(ParseFault::NoMemory) => Err(NoMemory),
+        Err(FlatFault::NotFlat) => Ok(Decision::NotFlat),
+        Err(FlatFault::NoMemory) => Err(NoMemory),
     }
 }

@@ -1,0 +1,75 @@
+-- Expressions that begin with a name.
+use Rattle.std.proofs.Common.{◌≡◌, ◌≢◌, ℕ, Bool, true, false, [], ◌∷◌, refl, sym, ap, ◌∙◌, arith}
+use Rattle.c_tree.specs.declared.tree.UnaryOp.{UnaryOp}
+use Rattle.c_tree.specs.declared.tree.StepOp.{StepOp}
+use Rattle.c_tree.specs.Tree.{Name, Expression, comma, assign, choose, binary, cast, unary, before, size_of, size_of_type, index, call, dot, arrow, after, name, integer, character, text, paren}
+use Rattle.c_tree.specs.Marks.{Tokens, name_token}
+use Rattle.c_tree.specs.TypeWords.{is_among}
+use Rattle.c_tree.specs.ExpressionShape.{ShapeExpression}
+use Rattle.c_grammar.specs.declared.kind.Kind.{Kind}
+use Rattle.c_grammar.specs.declared.kind.Kind.TheVariants as k
+use Rattle.c_grammar.specs.Kind.{kind, tail_of, unary_kind, step_kind, operator_kind, assignment_kind}
+use Rattle.c_grammar.specs.Rules.{Types, First, first_of_operand, no_operand, a_step, a_unary, infix_of, no_infix, an_operator, an_assign, a_step_behind, a_whole, a_rest}
+use Rattle.c_grammar.proofs.Onto.{onto_expression}
+use Rattle.c_grammar.proofs.Parse.{parse}
+use Rattle.c_grammar.proofs.KindLemmas.{kind_at, kind_name, kind_type}
+use Rattle.c_grammar.proofs.MoreKinds.{kind_unary, kind_step, kind_operator, kind_assignment, first_unary, first_step, infix_operator, infix_assignment, infix_step}
+use Rattle.c_grammar.proofs.Heads.{expression_head, heads_differ}
+use Rattle.c_grammar.proofs.Runs.{run_done, run_take, run_spend}
+use Rattle.c_grammar.proofs.ReadsOperands.{prefix_reads}
+
+unary_no_name : (o : UnaryOp) → unary_kind o ≢ k.Name
+unary_no_name o = λ q. let e : a_unary o ≡ First.a_word = sym (first_unary o) ∙ ap first_of_operand q in cc
+
+step_no_name : (o : StepOp) → step_kind o ≢ k.Name
+step_no_name o = λ q. let e : a_step o ≡ First.a_word = sym (first_step o) ∙ ap first_of_operand q in cc
+
+-- what goes on an expression is no colon
+infix_no_colon : (e : Kind) → infix_of e ≢ no_infix → e ≢ k.Colon
+infix_no_colon e h = λ q. h (ap infix_of q)
+
+behind : {P : Type 0} (us ts : Tokens) (e : Kind) → us ≡ ts → kind [] ts ≡ e → infix_of e ≢ no_infix → kind [] us ≡ k.Colon → P
+behind us ts e same is some colon = absurd (infix_no_colon e some (sym is ∙ ap (kind []) (sym same) ∙ colon))
+
+-- a text that begins with another token begins with no name
+other : {P : Type 0} (ts us : Tokens) (n : Name) (e : Kind) → ts ≡ name_token n ∷ us → kind [] ts ≡ e → e ≢ k.Name → P
+other ts us n e same is differ = heads_differ [] ts (name_token n ∷ us) e k.Name same is (kind_name [] n us refl) differ
+
+-- a colon directly behind the first name stands behind the expression
+pub colon_behind : (t : Types) (x : Expression) (r : Tokens) (n : Name) (us : Tokens) → ShapeExpression t x → onto_expression x r ≡ name_token n ∷ us → kind [] us ≡ k.Colon → us ≡ r
+colon_behind t (comma x y) r n us s e c = behind us _ k.Comma (colon_behind t x _ n us s.2 e c) (kind_at [] k.Comma [] _ tt) (λ q. cc) c
+colon_behind t (assign o x y) r n us s e c =
+    behind us _ (assignment_kind o) (colon_behind t x _ n us s.2 e c) (kind_assignment [] o _) (λ q. let f : an_assign o ≡ no_infix = sym (infix_assignment o) ∙ q in cc) c
+colon_behind t (choose x y z) r n us s e c = behind us _ k.Question (colon_behind t x _ n us s.3 e c) (kind_at [] k.Question [] _ tt) (λ q. cc) c
+colon_behind t (binary o x y) r n us s e c =
+    behind us _ (operator_kind o) (colon_behind t x _ n us s.2 e c) (kind_operator [] o _) (λ q. let f : an_operator o ≡ no_infix = sym (infix_operator o) ∙ q in cc) c
+colon_behind t (cast y x) r n us s e c = other _ us n k.OpenParen e (kind_at [] k.OpenParen [] _ tt) (λ q. cc)
+colon_behind t (unary o x) r n us s e c = other _ us n (unary_kind o) e (kind_unary [] o _) (unary_no_name o)
+colon_behind t (before o x) r n us s e c = other _ us n (step_kind o) e (kind_step [] o _) (step_no_name o)
+colon_behind t (size_of x) r n us s e c = other _ us n k.Sizeof e (kind_at [] k.Sizeof [] _ tt) (λ q. cc)
+colon_behind t (size_of_type y) r n us s e c = other _ us n k.Sizeof e (kind_at [] k.Sizeof [] _ tt) (λ q. cc)
+colon_behind t (index x y) r n us s e c = behind us _ k.OpenBracket (colon_behind t x _ n us s.1 e c) (kind_at [] k.OpenBracket [] _ tt) (λ q. cc) c
+colon_behind t (call x xs) r n us s e c = behind us _ k.OpenParen (colon_behind t x _ n us s.1 e c) (kind_at [] k.OpenParen [] _ tt) (λ q. cc) c
+colon_behind t (dot x m) r n us s e c = behind us _ k.Dot (colon_behind t x _ n us s.2 e c) (kind_at [] k.Dot [] _ tt) (λ q. cc) c
+colon_behind t (arrow x m) r n us s e c = behind us _ k.Arrow (colon_behind t x _ n us s.2 e c) (kind_at [] k.Arrow [] _ tt) (λ q. cc) c
+colon_behind t (after o x) r n us s e c =
+    behind us _ (step_kind o) (colon_behind t x _ n us s.1 e c) (kind_step [] o _) (λ q. let f : a_step_behind o ≡ no_infix = sym (infix_step o) ∙ q in cc) c
+colon_behind t (name m) r n us s e c = ap tail_of (sym e)
+colon_behind t (integer m) r n us s e c = other _ us n k.Integer e (kind_at [] k.Integer m _ tt) (λ q. cc)
+colon_behind t (character m) r n us s e c = other _ us n k.Character e (kind_at [] k.Character m _ tt) (λ q. cc)
+colon_behind t (text []) r n us s e c = absurd (omega arith)
+colon_behind t (text (m ∷ ms)) r n us s e c = other _ us n k.Text e (kind_at [] k.Text m _ tt) (λ q. cc)
+colon_behind t (paren x) r n us s e c = other _ us n k.OpenParen e (kind_at [] k.OpenParen [] _ tt) (λ q. cc)
+
+first_name : (t : Types) (n : Name) (us : Tokens) (test : Bool) → is_among t n ≡ test → first_of_operand (kind t (name_token n ∷ us)) ≢ no_operand → kind t (name_token n ∷ us) ≡ k.Name
+first_name t n us true e h = absurd (h (ap first_of_operand (kind_type t n us e)))
+first_name t n us false e h = kind_name t n us e
+
+-- where a name begins an expression, what is read goes on behind the name; a colon there stands behind the expression
+pub name_first : (t : Types) (d o : ℕ) (x : Expression) (r : Tokens) (n : Name) (us : Tokens) → ShapeExpression t x → onto_expression x r ≡ name_token n ∷ us →
+    (parse (a_whole t d 1 o) (onto_expression x r) ≡ parse (a_rest t d 1 (name n)) us) × (kind [] us ≡ k.Colon → us ≡ r)
+name_first t d o x r n us s begins =
+    let first : kind t (name_token n ∷ us) ≡ k.Name = first_name t n us (is_among t n) refl (λ q. expression_head t x r s (ap (λ v. first_of_operand (kind t v)) begins ∙ q)) in (
+      ap (parse (a_whole t d 1 o)) begins ∙ prefix_reads t d 1 o (name_token n ∷ us) (name n) us k.Name First.a_word first refl (run_spend (run_take (run_done refl))),
+      λ colon. colon_behind t x r n us s begins colon,
+    )

@@ -56,3 +56,9 @@ pub mod CompleteDeclarations
 pub mod CompleteStatements
 pub mod CompleteItems
 pub mod Programs
+pub mod Performs
+pub mod PerformsExpressions
+pub mod PerformsTypes
+pub mod PerformsDeclarators
+pub mod PerformsStatements
+pub mod PerformsRules

@@ -22,10 +22,12 @@ handled r ts m = read r (record { rest = ts; meter = m })
 pub record Runs (A : Type 0) (free : Bool) (limit : ℕ) (b : Reads A) (i : Input) (P : Outcome Meter A → Type 0) : Type 0 where
   pub is : P (exec Rule Result rank Meter limited handled free limit b i.rest i.meter)
 
-abbrev Does : {A : Type 0} → Bool → ℕ → Reads A → Tokens → Meter → Outcome Meter A
+-- what a body comes to
+abbrev pub Does : {A : Type 0} → Bool → ℕ → Reads A → Tokens → Meter → Outcome Meter A
 Does free limit b ts m = exec Rule Result rank Meter limited handled free limit b ts m
 
-opens : (r : Rule) (i : Input) → read r i ≡ Does false (rank r) (rule r) i.rest i.meter
+-- what a rule reads, with its body opened
+pub opens : (r : Rule) (i : Input) → read r i ≡ Does false (rank r) (rule r) i.rest i.meter
 unfolding read
 opens r i = opened Rule Result rank rule Meter limited top bounded r i.rest i.meter
 

@@ -5,3 +5,4 @@ pub mod Input
 pub mod Cursor
 pub mod Rules
 pub mod Reading
+pub mod Performing

@@ -1,7 +1,7 @@
 //! A cursor over the tokens of a text, with a count of what was read.
 
 ghost use Rattle.std.specs.Prelude.{◌≡◌, true, false, [], length, Some, None};
-ghost use Rattle.c_grammar.specs.Gauge.{added, raised, entered, within};
+ghost use Rattle.c_grammar.specs.Gauge.{added, raised, entered, fits, within};
 ghost use Rattle.c_grammar.specs.Input as spec;
 ghost use Rattle.c_grammar.specs.Kind as kinds;
 
@@ -116,6 +116,13 @@ impl<'a> Cursor<'a> {
         ensures { result ≡ self.now.meter.peak }
     {
         self.peak
+    }
+
+    /// Whether the nodes and the depth are within the limits.
+    pub fn fits(&self) -> bool
+        ensures { result ≡ fits self.now.meter }
+    {
+        self.made <= MAX_NODES && self.peak <= MAX_DEPTH
     }
 
     /// Adds nodes, of this depth at most. Where that passes a limit, the answer is false, and nothing changes.

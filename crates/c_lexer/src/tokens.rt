@@ -62,6 +62,30 @@ impl Tokens {
         }
     }
 
+    /// The place of the end of the text.
+    pub fn end(&self) -> Place
+        ensures { result ≡ self.now.end }
+    {
+        self.end
+    }
+
+    /// How many files the line markers name.
+    pub fn files(&self) -> usize
+        ensures { result ≡ length self.now.files }
+    {
+        self.files.len()
+    }
+
+    /// The name of the k-th file of the line markers, from 0; None exactly from their number on.
+    pub fn file_name(&self, k: usize) -> Option<&str>
+        ensures { option_copied result ≡ slice_get self.now.files k }
+    {
+        match self.files.get_index(k) {
+            Some(name) => Some(name.as_str()),
+            None => None,
+        }
+    }
+
     /// The name of a file; None exactly where the number is 0 or above the number of files.
     pub fn file(&self, n: u32) -> Option<&str>
         ensures { option_copied result ≡ (if nat_eq n 0 then None else slice_get self.now.files (n - 1)) }

@@ -1,10 +1,10 @@
 -- There is one first token for each node and one last token for each function, and none of them is behind the program.
-use Rattle.std.proofs.Common.{◌≡◌, ℕ, ◌+◌, ◌<◌, ◌≤◌, List, [], ◌∷◌, length, false, refl, arith, length-append}
+use Rattle.std.proofs.Common.{◌≡◌, ◌+◌, ◌<◌, ◌≤◌, List, [], ◌∷◌, length, false, refl, arith, length-append}
 use Rattle.std.specs.Prelude.{All, count_by}
 use Rattle.std.proofs.lemmas.List.Elements.{All-cons, All-weaker}
 use Rattle.c_tree.specs.Nodes.{is_function, program_node, nodes, nodes_items}
-use Rattle.c_tree.specs.Spelling.{spell, spell_item}
-use Rattle.c_tree.specs.Tree.{ItemTree, function_item, declaration_item}
+use Rattle.c_tree.specs.Spelling.{spell}
+use Rattle.c_tree.specs.Tree.{ItemTree}
 use Rattle.node_places.specs.Starts.{starts, starts_items, closes}
 use Rattle.node_places.proofs.Goes.{functions_cons, lifted}
 use Rattle.node_places.proofs.Walks.{entry, items_run, item_spelled}

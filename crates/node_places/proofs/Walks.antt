@@ -1,17 +1,15 @@
 -- A walk passes the tokens that a tree spells, and finds its nodes where they stand.
-use Rattle.std.proofs.Common.{◌≡◌, ℕ, ◌+◌, ◌-◌, ◌≤◌, List, [], ◌∷◌, ◌++◌, length, map, Option, Some, None, Bool, true, false, refl, ap, sym, ◌∙◌, arith, length-append, append_assoc, append-nil}
+use Rattle.std.proofs.Common.{◌≡◌, ℕ, ◌+◌, ◌≤◌, List, [], ◌∷◌, ◌++◌, length, Option, Some, None, Bool, true, false, refl, sym, arith, length-append}
 use Rattle.std.specs.Prelude.{is_some}
 use Rattle.std.proofs.lemmas.List.{length-map}
-use Rattle.base_core.specs.declared.token.Token.{Token}
 use Rattle.c_tree.specs.declared.tree.Storage.{Storage}
 use Rattle.c_tree.specs.declared.tree.Storage.TheVariants as st
-use Rattle.c_tree.specs.declared.tree.Qual.{Qual}
 use Rattle.c_tree.specs.Marks.{Tokens, text_token}
 use Rattle.c_tree.specs.Spelling.{qualifier_token, spell_quals, spell_stars, spell_tag, trailing, spell_expression, spell_arguments, spell_more, spell_sizes, spell_type, spell_specifiers, spell_specifier, spell_members, spell_declarators, spell_more_declarators, spell_enumerators, spell_more_enumerators, spell_declarator, spell_parameters, spell_more_parameters, spell_form, spell_bare, spell_designator, spell_init, spell_initializers, spell_more_initializers, spell_storage, spell_initial, spell_named, spell_more_named, spell_all_named, spell_declaration, spell_optional, spell_for_start, spell_statement, spell_statements, spell_item, spell}
 use Rattle.c_tree.specs.Tree.{Name, Quals, Stars, Expression, comma, assign, choose, binary, cast, unary, before, size_of, size_of_type, index, call, dot, arrow, after, name, integer, character, text, paren, Expressions, no_expressions, expressions, Sizes, no_sizes, open_size, size, TypeTree, typed, Specifiers, no_specifiers, specifiers, Specifier, const_word, volatile_word, void_word, char_word, short_word, int_word, long_word, signed_word, unsigned_word, type_name, struct_tag, struct_of, enum_tag, enum_of, Members, no_members, member, Declarators, no_declarators, declarators, Enumerators, no_enumerators, enumerator, enumerator_with, DeclaratorTree, plain, array, function, pointer, Parameters, no_parameters, parameters, ParameterForm, named_form, bare_form, BareTree, bare_stars, bare_pointer, Initializer, single, listed, Initializers, no_initializers, initializers, NamedTree, DeclarationTree, ForStartTree, start_declaration, start_expression, StatementTree, block, declaration, expression_statement, if_statement, if_else_statement, while_statement, do_statement, for_statement, switch_statement, case_label, default_label, named_label, break_statement, continue_statement, return_statement, goto_statement, Statements, no_statements, statements, FunctionTree, ItemTree, function_item, declaration_item}
-use Rattle.node_places.specs.Walked.{Walked, skip, skip_if, begin, close}
-use Rattle.node_places.specs.Past.{past_stars, is_void, past_expression, past_expressions, past_sizes, past_type, past_specifiers, past_specifier, past_members, past_declarators, past_enumerators, past_declarator, past_parameters, past_form, past_bare, past_designator, past_init, past_initializers, past_optional_init, past_named, past_names, past_storage, past_declaration, past_optional, past_for_start, past_statement, past_statements, past_function, past_item, past_items}
-use Rattle.node_places.specs.Starts.{starts_expression, starts_expressions, starts_sizes, starts_type, starts_specifiers, starts_specifier, starts_members, starts_declarators, starts_enumerators, starts_declarator, starts_parameters, starts_form, starts_bare, starts_init, starts_initializers, starts_optional_init, starts_named, starts_names, starts_declaration, starts_optional, starts_for_start, starts_statement, starts_statements, starts_function, starts_item, starts_items, closes_items, starts, closes}
+use Rattle.node_places.specs.Walked.{Walked, skip, skip_if, begin}
+use Rattle.node_places.specs.Past.{past_stars, is_void, past_expression, past_expressions, past_sizes, past_type, past_specifiers, past_specifier, past_members, past_declarators, past_enumerators, past_declarator, past_parameters, past_form, past_bare, past_designator, past_init, past_initializers, past_optional_init, past_named, past_names, past_storage, past_declaration, past_optional, past_for_start, past_statement, past_statements, past_function, past_items}
+use Rattle.node_places.specs.Starts.{starts_expression, starts_expressions, starts_sizes, starts_type, starts_specifiers, starts_specifier, starts_members, starts_declarators, starts_enumerators, starts_declarator, starts_parameters, starts_form, starts_bare, starts_init, starts_initializers, starts_optional_init, starts_named, starts_names, starts_declaration, starts_optional, starts_for_start, starts_statement, starts_statements, starts_function, starts_items, closes_items, starts, closes}
 use Rattle.c_tree.specs.Nodes.{Node, parameter_node, member_node, enumerator_node, initializers_node, named_node, declaration_node, statement_node, expression_node, nodes_expression, nodes_expressions, nodes_sizes, nodes_type, nodes_specifiers, nodes_specifier, nodes_members, nodes_declarators, nodes_enumerators, nodes_declarator, nodes_parameters, nodes_form, nodes_bare, nodes_init, nodes_initializers, nodes_optional_init, nodes_named, nodes_names, nodes_declaration, nodes_optional, nodes_start, nodes_statement, nodes_statements, nodes_item, nodes_items}
 use Rattle.node_places.proofs.Goes.{Goes, none, stay, skipped, begun, behind, ahead, then, ended, counted, Inside, inside_ahead, inside_skipped, inside_begun, inside_behind, inside_then, inside_counted, Runs, no_runs, runs, runs_then, runs_counted, closed}
 

@@ -2,7 +2,7 @@ use Rattle.std.proofs.Common.{◌≡◌, length, map, option_map, false, OnOk, a
 use Rattle.c_tree.specs.View.{view_declarator, view_expression, view_parameters, sizes_of}
 use Rattle.c_tree.proofs.ViewLemmas.{view_Declarator_Array, view_Declarator_Pointer}
 use Rattle.node_places.specs.Past.{past_stars, past_sizes, past_declarator, past_parameters, is_void}
-use Rattle.node_places.specs.Walked.{Walked, walked, skip, skip_if}
+use Rattle.node_places.specs.Walked.{walked, skip, skip_if}
 use Rattle.node_places.proofs.expressions.+walk.Goals as goal
 
 pub walk_declarator-returns-in_ok-skip-in-Array : goal.walk_declarator-returns-in_ok-skip-in-Array

@@ -1,4 +1,0 @@
-pub mod DeclaratorParts
-pub mod ParameterList
-pub mod SpecifierWords
-pub mod Tagged

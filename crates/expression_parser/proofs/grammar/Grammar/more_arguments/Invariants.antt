@@ -1,0 +1,14 @@
+use Rattle.std.proofs.Common.{map, length}
+use Rattle.c_tree.specs.Tree.{expressions}
+use Rattle.c_tree.specs.View.{view_expression}
+use Rattle.c_grammar.specs.Reading.{read}
+use Rattle.c_grammar.specs.Rules.{more_arguments}
+use Rattle.expression_parser.specs.Lists.{mapped}
+use Rattle.expression_parser.proofs.Loops.{Loop}
+use Rattle.expression_parser.proofs.grammar.Grammar.more_arguments.Given as goal
+
+abbrev pub invariant-loop-found : goal.invariant-loop-found
+invariant-loop-found g l = Loop expressions (map view_expression l.found) (read (more_arguments l.self.types.now l.d) l.cursor) (mapped (expressions (view_expression l.fn.first)) (read (more_arguments l.fn.self.types.now l.fn.d) l.fn.cursor))
+
+abbrev pub decreases-loop-found : goal.decreases-loop-found
+decreases-loop-found g l = length l.cursor.rest

@@ -1,0 +1,410 @@
+//! Expressions: an operand, and how it goes on with operators.
+
+ghost use Rattle.std.specs.Prelude.{◌≡◌, ◌≤◌, ◌∷◌, Some, map};
+ghost use Rattle.c_tree.specs.Tree.{expressions};
+ghost use Rattle.c_tree.specs.View.{view_expression, expressions_of};
+ghost use Rattle.c_grammar.specs.Body.{look};
+ghost use Rattle.c_grammar.specs.Reading.{read};
+ghost use Rattle.c_grammar.specs.Rules.{an_expression, a_whole, a_prefix, a_rest, an_opened, more_texts, all_arguments, more_arguments, opened_by, sized_by, sizeof_by};
+ghost use Rattle.expression_parser.specs.Beginning.{leaf, words, operand};
+ghost use Rattle.expression_parser.specs.Extending.{extended, right_operand, choices, subscript, arguments, another, member_name, stepped};
+ghost use Rattle.expression_parser.specs.Gives.{Gives};
+ghost use Rattle.expression_parser.specs.Infixes.{view_infix};
+ghost use Rattle.expression_parser.specs.Lists.{mapped};
+ghost use Rattle.expression_parser.specs.Nests.{Nests};
+ghost use Rattle.expression_parser.specs.Performing.{perform};
+
+use crate::grammar::{Found, Grammar, Nested};
+use crate::infix::{First, Infix, begins_type, first_of_operand, infix_behind, level, op_level};
+use crate::refusal::Refusal;
+use crate::steps::{expect, kind, name, refused, rise, spend, word};
+use base_core::Lexeme;
+use c_grammar::{Cursor, Kind, same_kind};
+use c_tree::{Expr, StepOp};
+use program_scope::Types;
+use sqlite_items::{Boxed, Items};
+use std::alloc::Global;
+
+/// Texts that follow one another, behind the first.
+fn texts(alloc: Global, cursor: &mut Cursor<'_>, first: Lexeme) -> Result<Items<Lexeme>, Refusal>
+    ensures { Gives (λ ns. ns) (mapped (λ ns. first ∷ ns) (read more_texts cursor.old)) result cursor.new }
+{
+    let mut found = Items::new(alloc);
+    found.push(first)?;
+    while same_kind(cursor.kind(), Kind::Text) {
+        found.push(word(alloc, cursor)?)?;
+    }
+    Ok(found)
+}
+
+/// The text of a token that is an operand.
+fn leaf(alloc: Global, cursor: &mut Cursor<'_>, d: u32, owed: u32) -> Result<Lexeme, Refusal>
+    requires small { d ≤ 1001 }
+    ensures { Gives (λ n. n) (perform (leaf d owed) cursor.old) result cursor.new }
+{
+    spend(cursor, owed, d + 1)?;
+    word(alloc, cursor)
+}
+
+/// Texts that follow one another.
+fn words(
+    alloc: Global,
+    cursor: &mut Cursor<'_>,
+    d: u32,
+    owed: u32,
+) -> Result<Items<Lexeme>, Refusal>
+    requires small { d ≤ 1001 }
+    ensures { Gives (λ ns. ns) (perform (words d owed) cursor.old) result cursor.new }
+{
+    spend(cursor, owed, d + 1)?;
+    let first = word(alloc, cursor)?;
+    let found = texts(alloc, cursor, first)?;
+    Ok(found)
+}
+
+impl<F: Fn(Global, &Types, &mut Cursor<'_>, usize, u32, Nested) -> Result<Found, Refusal>> Grammar<
+    '_,
+    F,
+> {
+    /// An operator, and its right operand.
+    fn right_operand(
+        &self,
+        cursor: &mut Cursor<'_>,
+        d: u32,
+        least: u8,
+    ) -> Result<Boxed<Expr>, Refusal>
+        requires nests { Nests self.now.budget (F.pre self.now.read) (F.post self.now.read) }
+        requires small { d ≤ 1001 }
+        ensures { Gives view_expression (perform (right_operand self.now.types.now d least) cursor.old) result cursor.new }
+    {
+        rise(cursor)?;
+        spend(cursor, 2, d + 2)?;
+        cursor.take();
+        let found = self.expression(cursor, d + 1, least, 0)?;
+        Ok(Boxed::new(self.alloc, found)?)
+    }
+
+    /// Both choices behind a condition.
+    fn choices(
+        &self,
+        cursor: &mut Cursor<'_>,
+        d: u32,
+    ) -> Result<(Boxed<Expr>, Boxed<Expr>), Refusal>
+        requires nests { Nests self.now.budget (F.pre self.now.read) (F.post self.now.read) }
+        requires small { d ≤ 1001 }
+        ensures { Gives (λ p. (view_expression p.0, view_expression p.1)) (perform (choices self.now.types.now d) cursor.old) result cursor.new }
+    {
+        rise(cursor)?;
+        spend(cursor, 3, d + 2)?;
+        cursor.take();
+        let first = self.expression(cursor, d + 1, 1, 0)?;
+        expect(cursor, Kind::Colon)?;
+        let other = self.expression(cursor, d + 1, 3, 0)?;
+        Ok((
+            Boxed::new(self.alloc, first)?,
+            Boxed::new(self.alloc, other)?,
+        ))
+    }
+
+    /// A subscript in its brackets.
+    fn subscript(&self, cursor: &mut Cursor<'_>, d: u32) -> Result<Boxed<Expr>, Refusal>
+        requires nests { Nests self.now.budget (F.pre self.now.read) (F.post self.now.read) }
+        requires small { d ≤ 1001 }
+        ensures { Gives view_expression (perform (subscript self.now.types.now d) cursor.old) result cursor.new }
+    {
+        rise(cursor)?;
+        spend(cursor, 2, d + 2)?;
+        cursor.take();
+        let found = self.expression(cursor, d + 1, 1, 0)?;
+        expect(cursor, Kind::CloseBracket)?;
+        Ok(Boxed::new(self.alloc, found)?)
+    }
+
+    /// Arguments in their brackets.
+    fn arguments(&self, cursor: &mut Cursor<'_>, d: u32) -> Result<Items<Expr>, Refusal>
+        requires nests { Nests self.now.budget (F.pre self.now.read) (F.post self.now.read) }
+        requires small { d ≤ 1001 }
+        ensures { Gives (λ xs. expressions_of (map view_expression xs)) (perform (arguments self.now.types.now d) cursor.old) result cursor.new }
+    {
+        rise(cursor)?;
+        spend(cursor, 1, d + 1)?;
+        cursor.take();
+        self.all_arguments(cursor, d + 1)
+    }
+
+    /// Arguments with the closing bracket.
+    #[tactic(auto, using(crate::proofs::Opens::arguments_performs))]
+    fn all_arguments(&self, cursor: &mut Cursor<'_>, d: u32) -> Result<Items<Expr>, Refusal>
+        requires nests { Nests self.now.budget (F.pre self.now.read) (F.post self.now.read) }
+        requires small { d ≤ 1001 }
+        ensures { Gives (λ xs. expressions_of (map view_expression xs)) (read (all_arguments self.now.types.now d) cursor.old) result cursor.new }
+    {
+        match kind(self.types, cursor) {
+            Kind::CloseParen => {
+                cursor.take();
+                Ok(Items::new(self.alloc))
+            }
+            _ => {
+                let first = self.expression(cursor, d, 2, 1)?;
+                self.more_arguments(cursor, d, first)
+            }
+        }
+    }
+
+    /// Arguments, behind the first, with the closing bracket.
+    fn more_arguments(
+        &self,
+        cursor: &mut Cursor<'_>,
+        d: u32,
+        first: Expr,
+    ) -> Result<Items<Expr>, Refusal>
+        requires nests { Nests self.now.budget (F.pre self.now.read) (F.post self.now.read) }
+        requires small { d ≤ 1001 }
+        ensures { Gives (λ xs. expressions_of (map view_expression xs)) (mapped (expressions (view_expression first)) (read (more_arguments self.now.types.now d) cursor.old)) result cursor.new }
+    {
+        let mut found = Items::new(self.alloc);
+        found.push(first)?;
+        while same_kind(cursor.kind(), Kind::Comma) {
+            found.push(self.another(cursor, d)?)?;
+        }
+        expect(cursor, Kind::CloseParen)?;
+        Ok(found)
+    }
+
+    /// One more argument, behind a comma.
+    fn another(&self, cursor: &mut Cursor<'_>, d: u32) -> Result<Expr, Refusal>
+        requires nests { Nests self.now.budget (F.pre self.now.read) (F.post self.now.read) }
+        requires small { d ≤ 1001 }
+        ensures { Gives view_expression (perform (another self.now.types.now d) cursor.old) result cursor.new }
+    {
+        spend(cursor, 1, d + 1)?;
+        cursor.take();
+        self.expression(cursor, d, 2, 0)
+    }
+
+    /// The name of a member, behind a point or an arrow.
+    fn member_name(&self, cursor: &mut Cursor<'_>, d: u32) -> Result<Lexeme, Refusal>
+        requires nests { Nests self.now.budget (F.pre self.now.read) (F.post self.now.read) }
+        requires small { d ≤ 1001 }
+        ensures { Gives (λ n. n) (perform (member_name self.now.types.now d) cursor.old) result cursor.new }
+    {
+        rise(cursor)?;
+        spend(cursor, 1, d + 1)?;
+        cursor.take();
+        name(self.alloc, self.types, cursor)
+    }
+
+    /// `++` or `--` behind its operand.
+    fn stepped(&self, cursor: &mut Cursor<'_>, d: u32) -> Result<(), Refusal>
+        requires nests { Nests self.now.budget (F.pre self.now.read) (F.post self.now.read) }
+        requires small { d ≤ 1001 }
+        ensures { Gives (λ u. u) (perform (stepped d) cursor.old) result cursor.new }
+    {
+        rise(cursor)?;
+        spend(cursor, 1, d + 1)?;
+        cursor.take();
+        Ok(())
+    }
+
+    /// What an operator makes of the expression before it.
+    #[tactic(auto, using(c_tree::proofs::ViewLemmas::view_Expr_Comma, c_tree::proofs::ViewLemmas::view_Expr_Assign, c_tree::proofs::ViewLemmas::view_Expr_Choose, c_tree::proofs::ViewLemmas::view_Expr_Binary, c_tree::proofs::ViewLemmas::view_Expr_Index, c_tree::proofs::ViewLemmas::view_Expr_Call, c_tree::proofs::ViewLemmas::view_Expr_Dot, c_tree::proofs::ViewLemmas::view_Expr_Arrow, c_tree::proofs::ViewLemmas::view_Expr_After))]
+    fn extended(
+        &self,
+        cursor: &mut Cursor<'_>,
+        d: u32,
+        left: Boxed<Expr>,
+        sign: Infix,
+    ) -> Result<Expr, Refusal>
+        requires nests { Nests self.now.budget (F.pre self.now.read) (F.post self.now.read) }
+        requires small { d ≤ 1001 }
+        ensures { Gives view_expression (extended self.now.types.now d (view_expression left) (view_infix (Some sign)) cursor.old) result cursor.new }
+    {
+        Ok(match sign {
+            Infix::Comma => Expr::Comma(left, self.right_operand(cursor, d, 2)?),
+            Infix::Assign(op) => Expr::Assign(op, left, self.right_operand(cursor, d, 2)?),
+            Infix::Question => {
+                let (first, other) = self.choices(cursor, d)?;
+                Expr::Choose(left, first, other)
+            }
+            Infix::Operator(op) => {
+                Expr::Binary(op, left, self.right_operand(cursor, d, op_level(op) + 1)?)
+            }
+            Infix::Index => Expr::Index(left, self.subscript(cursor, d)?),
+            Infix::Call => Expr::Call(left, self.arguments(cursor, d)?),
+            Infix::Dot => Expr::Dot(left, self.member_name(cursor, d)?),
+            Infix::Arrow => Expr::Arrow(left, self.member_name(cursor, d)?),
+            Infix::Step(op) => {
+                self.stepped(cursor, d)?;
+                Expr::After(op, left)
+            }
+        })
+    }
+
+    /// How an expression goes on behind what was read of it.
+    pub fn rest(&self, cursor: &mut Cursor<'_>, d: u32, least: u8, x: Expr) -> Result<Expr, Refusal>
+        requires nests { Nests self.now.budget (F.pre self.now.read) (F.post self.now.read) }
+        requires small { d ≤ 1001 }
+        ensures { Gives view_expression (read (a_rest self.now.types.now d least (view_expression x)) cursor.old) result cursor.new }
+    {
+        let mut left = x;
+        while let Some(sign) = infix_behind(least, kind(self.types, cursor), level(&left)) {
+            left = self.extended(cursor, d, Boxed::new(self.alloc, left)?, sign)?;
+        }
+        Ok(left)
+    }
+
+    /// The operand of `sizeof` that begins with a bracket, which was read.
+    #[tactic(auto, using(crate::proofs::Opens::opened_performs, c_tree::proofs::ViewLemmas::view_Expr_Paren))]
+    fn opened(&self, cursor: &mut Cursor<'_>, d: u32) -> Result<Expr, Refusal>
+        requires nests { Nests self.now.budget (F.pre self.now.read) (F.post self.now.read) }
+        requires small { d ≤ 1000 }
+        ensures { Gives view_expression (read (an_opened self.now.types.now d) cursor.old) result cursor.new }
+    {
+        let inner = self.expression(cursor, d + 1, 1, 2)?;
+        expect(cursor, Kind::CloseParen)?;
+        let operand = Expr::Paren(Boxed::new(self.alloc, inner)?);
+        self.rest(cursor, d, 15, operand)
+    }
+
+    /// Behind an open bracket: a type and an operand, or an expression.
+    #[tactic(auto, using(c_tree::proofs::ViewLemmas::view_Expr_Cast, c_tree::proofs::ViewLemmas::view_Expr_Paren))]
+    fn bracketed(&self, cursor: &mut Cursor<'_>, d: u32, least: u8) -> Result<Expr, Refusal>
+        requires nests { Nests self.now.budget (F.pre self.now.read) (F.post self.now.read) }
+        requires small { d ≤ 1000 }
+        ensures { Gives view_expression (perform (look self.now.types.now (opened_by self.now.types.now d least)) cursor.old) result cursor.new }
+    {
+        if begins_type(kind(self.types, cursor)) && least <= 14 {
+            let ty = self.type_name(cursor, d + 1)?;
+            expect(cursor, Kind::CloseParen)?;
+            let operand = self.expression(cursor, d + 1, 14, 0)?;
+            Ok(Expr::Cast(
+                Boxed::new(self.alloc, ty)?,
+                Boxed::new(self.alloc, operand)?,
+            ))
+        } else {
+            let inner = self.expression(cursor, d + 1, 1, 0)?;
+            expect(cursor, Kind::CloseParen)?;
+            Ok(Expr::Paren(Boxed::new(self.alloc, inner)?))
+        }
+    }
+
+    /// Behind `sizeof` and an open bracket: a type, or an operand that begins with the bracket.
+    #[tactic(auto, using(c_tree::proofs::ViewLemmas::view_Expr_SizeOfType, c_tree::proofs::ViewLemmas::view_Expr_SizeOf))]
+    fn sized(&self, cursor: &mut Cursor<'_>, d: u32) -> Result<Expr, Refusal>
+        requires nests { Nests self.now.budget (F.pre self.now.read) (F.post self.now.read) }
+        requires small { d ≤ 999 }
+        ensures { Gives view_expression (perform (look self.now.types.now (sized_by self.now.types.now d)) cursor.old) result cursor.new }
+    {
+        if begins_type(kind(self.types, cursor)) {
+            let ty = self.type_name(cursor, d + 1)?;
+            expect(cursor, Kind::CloseParen)?;
+            Ok(Expr::SizeOfType(Boxed::new(self.alloc, ty)?))
+        } else {
+            let outer = cursor.enter(d + 2);
+            let operand = self.opened(cursor, d + 1)?;
+            cursor.leave(outer);
+            Ok(Expr::SizeOf(Boxed::new(self.alloc, operand)?))
+        }
+    }
+
+    /// Behind `sizeof`.
+    #[tactic(auto, using(c_tree::proofs::ViewLemmas::view_Expr_SizeOf))]
+    fn size_of(&self, cursor: &mut Cursor<'_>, d: u32) -> Result<Expr, Refusal>
+        requires nests { Nests self.now.budget (F.pre self.now.read) (F.post self.now.read) }
+        requires small { d ≤ 999 }
+        ensures { Gives view_expression (perform (look self.now.types.now (sizeof_by self.now.types.now d)) cursor.old) result cursor.new }
+    {
+        match kind(self.types, cursor) {
+            Kind::OpenParen => {
+                cursor.take();
+                self.sized(cursor, d)
+            }
+            _ => {
+                let operand = self.expression(cursor, d + 1, 15, 1)?;
+                Ok(Expr::SizeOf(Boxed::new(self.alloc, operand)?))
+            }
+        }
+    }
+
+    /// An operator, and the operand behind it.
+    fn operand(
+        &self,
+        cursor: &mut Cursor<'_>,
+        d: u32,
+        owed: u32,
+        least: u8,
+    ) -> Result<Boxed<Expr>, Refusal>
+        requires nests { Nests self.now.budget (F.pre self.now.read) (F.post self.now.read) }
+        requires small { d ≤ 1001 }
+        requires few { owed ≤ 1000 }
+        ensures { Gives view_expression (perform (operand self.now.types.now d owed least) cursor.old) result cursor.new }
+    {
+        spend(cursor, owed + 1, d + 2)?;
+        cursor.take();
+        let found = self.expression(cursor, d + 1, least, 0)?;
+        Ok(Boxed::new(self.alloc, found)?)
+    }
+
+    /// The first operand.
+    #[tactic(auto, using(crate::proofs::Beginning::prefix_begins, c_tree::proofs::ViewLemmas::view_Expr_Name, c_tree::proofs::ViewLemmas::view_Expr_Integer, c_tree::proofs::ViewLemmas::view_Expr_Character, c_tree::proofs::ViewLemmas::view_Expr_Text, c_tree::proofs::ViewLemmas::view_Expr_Before, c_tree::proofs::ViewLemmas::view_Expr_Unary))]
+    fn prefix(&self, cursor: &mut Cursor<'_>, d: u32, least: u8, owed: u32) -> Result<Expr, Refusal>
+        requires nests { Nests self.now.budget (F.pre self.now.read) (F.post self.now.read) }
+        requires small { d ≤ 1001 }
+        requires few { owed ≤ 1000 }
+        ensures { Gives view_expression (read (a_prefix self.now.types.now d least owed) cursor.old) result cursor.new }
+    {
+        let Some(first) = first_of_operand(kind(self.types, cursor)) else {
+            return Err(refused(cursor));
+        };
+        Ok(match first {
+            First::Word => Expr::Name(leaf(self.alloc, cursor, d, owed)?),
+            First::Number => Expr::Integer(leaf(self.alloc, cursor, d, owed)?),
+            First::Character => Expr::Character(leaf(self.alloc, cursor, d, owed)?),
+            First::Text => Expr::Text(words(self.alloc, cursor, d, owed)?),
+            First::Open => {
+                spend(cursor, owed + 1, d + 2)?;
+                cursor.take();
+                self.bracketed(cursor, d, least)?
+            }
+            First::Sizeof => {
+                spend(cursor, owed, d + 1)?;
+                cursor.take();
+                self.size_of(cursor, d)?
+            }
+            First::Step(op) => Expr::Before(op, self.operand(cursor, d, owed, 15)?),
+            First::Unary(op) => Expr::Unary(op, self.operand(cursor, d, owed, 14)?),
+        })
+    }
+
+    /// An operand and what is behind it.
+    #[tactic(auto, using(crate::proofs::Opens::whole_performs))]
+    fn whole(&self, cursor: &mut Cursor<'_>, d: u32, least: u8, owed: u32) -> Result<Expr, Refusal>
+        requires nests { Nests self.now.budget (F.pre self.now.read) (F.post self.now.read) }
+        requires small { d ≤ 1001 }
+        requires few { owed ≤ 1000 }
+        ensures { Gives view_expression (read (a_whole self.now.types.now d least owed) cursor.old) result cursor.new }
+    {
+        let first = self.prefix(cursor, d, least, owed)?;
+        self.rest(cursor, d, least, first)
+    }
+
+    /// An expression of at least this level, whose first token makes so many nodes necessary besides its own.
+    #[tactic(auto, using(crate::proofs::Opens::expression_performs))]
+    pub fn level(
+        &self,
+        cursor: &mut Cursor<'_>,
+        d: u32,
+        least: u8,
+        owed: u32,
+    ) -> Result<Expr, Refusal>
+        requires nests { Nests self.now.budget (F.pre self.now.read) (F.post self.now.read) }
+        requires small { d ≤ 1001 }
+        requires few { owed ≤ 1000 }
+        ensures { Gives view_expression (read (an_expression self.now.types.now d least owed) cursor.old) result cursor.new }
+    {
+        let outer = cursor.enter(d + 1);
+        let found = self.whole(cursor, d, least, owed)?;
+        cursor.leave(outer);
+        Ok(found)
+    }
+}

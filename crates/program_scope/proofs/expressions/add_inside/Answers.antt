@@ -1,0 +1,22 @@
+use Rattle.std.proofs.Common.{◌≡◌, map, option_map, OnOk, ap, sym, ◌∙◌, subst}
+use Rattle.c_tree.specs.View.{view_declarator, view_expression, view_parameter, sizes_of, parameters_of}
+use Rattle.c_tree.proofs.ViewLemmas.{view_Declarator_Array, view_Declarator_Pointer, view_Params}
+use Rattle.program_scope.specs.With.{with_inside, with_sizes, with_parameters}
+use Rattle.program_scope.proofs.expressions.add_inside.Goals as goal
+
+pub returns-in-Array : goal.returns-in-Array
+returns-in-Array c =
+    let ks = c.args.names.now in
+    let seen = ap (with_inside ks) (ap view_declarator c.in-Array.is ∙ view_Declarator_Array c.in-Array.field-0 c.in-Array.field-1 c.in-Array.sizes) in
+    let sizes = ap (λ xs. with_sizes ks (sizes_of (map (option_map view_expression) xs))) c.as_slice.ensures in
+    subst (λ v. OnOk c.add_sizes.result (c.add_sizes.new.names ≡ v)) (sizes ∙ sym seen) c.add_sizes.ensures
+
+pub returns-in_ok-add_sizes-in-Pointer : goal.returns-in_ok-add_sizes-in-Pointer
+returns-in_ok-add_sizes-in-Pointer c =
+    let ks = c.args.names.now in
+    let seen = ap (with_inside ks) (ap view_declarator c.in-Pointer.is ∙ view_Declarator_Pointer c.in-Pointer.field-0 c.in-Pointer.field-1 c.in-Pointer.field-2 c.in-Pointer.sizes c.in-Pointer.params) in
+    let sizes = c.in_ok-add_sizes-in-Pointer.ensures ∙ ap (λ xs. with_sizes ks (sizes_of (map (option_map view_expression) xs))) c.as_slice-in-Pointer.ensures in
+    let params = ap (λ xs. parameters_of (map view_parameter xs)) c.as_slice-in-Pointer-2.ensures ∙ sym (ap (λ ps. ps.0) (view_Params c.in-Pointer.params)) in
+    let all = ap (λ v. with_parameters v (parameters_of (map view_parameter c.as_slice-in-Pointer-2.result.now))) sizes
+    ∙ ap (with_parameters (with_sizes ks (sizes_of (map (option_map view_expression) c.in-Pointer.sizes)))) params in
+    subst (λ v. OnOk c.add_parameters-in-Pointer.result (c.add_parameters-in-Pointer.new.names ≡ v)) (all ∙ sym seen) c.add_parameters-in-Pointer.ensures

@@ -1,0 +1,8 @@
+pub mod DeclaratorLists
+pub mod ParameterLists
+pub mod SpecifierWordLemmas
+pub mod SpecifierLoop
+pub mod TaggedShorter
+pub mod TaggedDeclarators
+pub mod TaggedMembers
+pub mod TaggedEnumerators

@@ -1,0 +1,142 @@
+-- Specifiers, one by one.
+use Rattle.std.proofs.Common.{◌≡◌, ◌<◌, ◌≤◌, ℕ, Bool, true, false, cond, List, [], ◌∷◌, ◌++◌, length, Option, Some, None, refl, sym, ap, ◌∙◌, subst, arith}
+use Rattle.c_tree.specs.Tree.{Specifier, Specifiers, no_specifiers, specifiers, type_name}
+use Rattle.c_tree.specs.TypeWords.{TypeWord, is_one_type, of_whole}
+use Rattle.c_tree.specs.Marks.{Tokens}
+use Rattle.c_tree.specs.View.{specifiers_of}
+use Rattle.c_grammar.specs.declared.kind.Kind.{Kind}
+use Rattle.c_grammar.specs.Kind.{kind, tail_of, head_text}
+use Rattle.c_grammar.specs.Body.{done, stop, Outcome, got, refused, exceeded, and_then, Reader}
+use Rattle.c_grammar.specs.Body as body
+use Rattle.c_grammar.specs.Gauge.{Meter}
+use Rattle.c_grammar.specs.Input.{Input, next}
+use Rattle.c_grammar.specs.Reading.{read}
+use Rattle.c_grammar.specs.Rules as rules
+use Rattle.c_grammar.specs.Rules.{Reads, Types, all_specifiers, specifiers_by, ends_type, start_of, a_struct, an_enum}
+use Rattle.c_grammar.proofs.KindLemmas.{kind_end}
+use Rattle.expression_parser.specs.declared.refusal.Refusal.{Refusal}
+use Rattle.expression_parser.specs.declared.refusal.Refusal.TheVariants.{Syntax}
+use Rattle.expression_parser.specs.Gives.{Fails}
+use Rattle.expression_parser.specs.Lists.{mapped, before}
+use Rattle.expression_parser.specs.Performing.{perform, at}
+use Rattle.expression_parser.proofs.Joining.{tail_mapped, then_fails, perform_leaves}
+use Rattle.expression_parser.proofs.Loops.{Turn, Loop, loop_begins}
+use Rattle.expression_parser.proofs.Opens.{specifiers_performs}
+use Rattle.expression_parser.proofs.Shorter.{Leaves}
+use Rattle.type_parser.specs.declared.words.Start.{Start}
+use Rattle.type_parser.specs.declared.words.Start.TheVariants as s
+use Rattle.type_parser.specs.declared.words.Word.TheVariants as w
+use Rattle.type_parser.specs.SpecifierWords.{a_specifier, view_start, specifier_of, word_of, behind, goes_on, Follows, Ends, Goes}
+
+module _ (t : Types) (d : ℕ) where
+  -- the specifiers behind one of them
+  abbrev others : List TypeWord → Specifier → Reader Meter Specifiers
+  others ws x us m = mapped (specifiers x) (read (all_specifiers t d ws) (at us m))
+
+  chosen : (b : Bool) (f g : Reads Specifiers) (i : Input) → b ≡ true → perform (cond b f g) i ≡ perform f i
+  chosen true f g i may = refl
+  chosen false f g i may = absurd cc
+
+  tagged : (ws : List TypeWord) (o : Outcome Meter Specifier) →
+      and_then o (λ x us m. and_then (read (all_specifiers t d ws) (at us m)) (λ xs vs n. got (specifiers x xs) vs n)) ≡ and_then (and_then o (λ x us m. got x us m)) (others ws)
+  tagged ws (got x us m) = tail_mapped (specifiers x) (read (all_specifiers t d ws) (at us m))
+  tagged ws (refused us) = refl
+  tagged ws (exceeded us) = refl
+
+  goes : (ws : List TypeWord) (x : Start) (i : Input) → goes_on ws (view_start (Some x)) ≡ true →
+      perform (specifiers_by t d ws (view_start (Some x))) i ≡ and_then (perform (a_specifier t d x) i) (others (behind ws (word_of (view_start (Some x)))))
+  goes ws (s.Word w.Const) i may = tail_mapped (specifiers (specifier_of w.Const)) (read (all_specifiers t d ws) (next i))
+  goes ws (s.Word w.Volatile) i may = tail_mapped (specifiers (specifier_of w.Volatile)) (read (all_specifiers t d ws) (next i))
+  goes ws (s.Word w.Void) i may = chosen _ _ _ i may ∙ tail_mapped (specifiers (specifier_of w.Void)) (read (all_specifiers t d (behind ws (word_of (view_start (Some (s.Word w.Void)))))) (next i))
+  goes ws (s.Word w.Char) i may = chosen _ _ _ i may ∙ tail_mapped (specifiers (specifier_of w.Char)) (read (all_specifiers t d (behind ws (word_of (view_start (Some (s.Word w.Char)))))) (next i))
+  goes ws (s.Word w.Short) i may = chosen _ _ _ i may ∙ tail_mapped (specifiers (specifier_of w.Short)) (read (all_specifiers t d (behind ws (word_of (view_start (Some (s.Word w.Short)))))) (next i))
+  goes ws (s.Word w.Int) i may = chosen _ _ _ i may ∙ tail_mapped (specifiers (specifier_of w.Int)) (read (all_specifiers t d (behind ws (word_of (view_start (Some (s.Word w.Int)))))) (next i))
+  goes ws (s.Word w.Long) i may = chosen _ _ _ i may ∙ tail_mapped (specifiers (specifier_of w.Long)) (read (all_specifiers t d (behind ws (word_of (view_start (Some (s.Word w.Long)))))) (next i))
+  goes ws (s.Word w.Signed) i may = chosen _ _ _ i may ∙ tail_mapped (specifiers (specifier_of w.Signed)) (read (all_specifiers t d (behind ws (word_of (view_start (Some (s.Word w.Signed)))))) (next i))
+  goes ws (s.Word w.Unsigned) i may = chosen _ _ _ i may ∙ tail_mapped (specifiers (specifier_of w.Unsigned)) (read (all_specifiers t d (behind ws (word_of (view_start (Some (s.Word w.Unsigned)))))) (next i))
+  goes ws s.TypeName i may = chosen _ _ _ i may ∙ tail_mapped (specifiers (type_name (head_text i.rest))) (read (all_specifiers t d (ws ++ of_whole ∷ [])) (next i))
+  goes ws s.Struct i may = chosen _ _ _ i may ∙ tagged (ws ++ of_whole ∷ []) (read (a_struct t d) (next i))
+  goes ws s.Enum i may = chosen _ _ _ i may ∙ tagged (ws ++ of_whole ∷ []) (read (an_enum t d) (next i))
+
+  goes_by : (ws : List TypeWord) (x : Start) (i : Input) (f : rules.Start) → f ≡ view_start (Some x) → goes_on ws f ≡ true →
+      perform (specifiers_by t d ws f) i ≡ and_then (perform (a_specifier t d x) i) (others (behind ws (word_of f)))
+  goes_by ws x i f is may =
+      subst (λ f. goes_on ws f ≡ true → perform (specifiers_by t d ws f) i ≡ and_then (perform (a_specifier t d x) i) (others (behind ws (word_of f)))) (sym is) (goes ws x i) may
+
+  specifiers_on : (i : Input) (ws new : List TypeWord) (x : Start) → Follows (start_of (kind t i.rest)) ws x new →
+      read (all_specifiers t d ws) i ≡ and_then (perform (a_specifier t d x) i) (others new)
+  specifiers_on i ws new x h =
+      specifiers_performs t d ws i ∙ goes_by ws x i (start_of (kind t i.rest)) h.start h.goes ∙ ap (λ z. and_then (perform (a_specifier t d x) i) (others z)) (sym h.added)
+
+  -- one more specifier, and the others
+  pub specifiers_turn : (i j : Input) (ws new : List TypeWord) (x : Start) (v : Specifier) → Follows (start_of (kind t i.rest)) ws x new → perform (a_specifier t d x) i ≡ got v j.rest j.meter →
+      Turn specifiers v (read (all_specifiers t d ws) i) (read (all_specifiers t d new) j)
+  specifiers_turn i j ws new x v h e = record { is = specifiers_on i ws new x h ∙ ap (λ o. and_then o (others new)) e }
+
+  pub specifiers_fail : (i : Input) (ws new : List TypeWord) (x : Start) (e : Refusal) → Follows (start_of (kind t i.rest)) ws x new → Fails (perform (a_specifier t d x) i) e →
+      Fails (read (all_specifiers t d ws) i) e
+  specifiers_fail i ws new x e h f = subst (λ o. Fails o e) (sym (specifiers_on i ws new x h)) (then_fails (others new) f)
+
+  -- ---- behind the last
+
+  no_more : (b : Bool) (f g : Reads Specifiers) → b ≡ false → cond b f g ≡ g
+  no_more true f g may = absurd cc
+  no_more false f g may = refl
+
+  off : (ws : List TypeWord) (f : rules.Start) → goes_on ws f ≡ false → specifiers_by t d ws f ≡ ends_type ws
+  off ws rules.no_specifier may = refl
+  off ws (rules.a_qualifier x) may = absurd cc
+  off ws (rules.a_type_word y x) may = no_more _ _ _ may
+  off ws rules.a_type_name may = no_more _ _ _ may
+  off ws rules.a_struct_word may = no_more _ _ _ may
+  off ws rules.an_enum_word may = no_more _ _ _ may
+
+  ended : (ws : List TypeWord) (i : Input) (b : Bool) → is_one_type ws ≡ b → goes_on ws (start_of (kind t i.rest)) ≡ false →
+      read (all_specifiers t d ws) i ≡ perform (cond b (done no_specifiers) stop) i
+  ended ws i b is may = specifiers_performs t d ws i ∙ ap (λ z. perform z i) (off ws (start_of (kind t i.rest)) may) ∙ ap (λ z. perform (cond z (done no_specifiers) stop) i) is
+
+  pub specifiers_end : (i : Input) (ws : List TypeWord) → goes_on ws (start_of (kind t i.rest)) ≡ false → is_one_type ws ≡ true → read (all_specifiers t d ws) i ≡ got no_specifiers i.rest i.meter
+  specifiers_end i ws may is = ended ws i true is may
+
+  pub specifiers_stop : (i : Input) (ws : List TypeWord) (e : Refusal) → goes_on ws (start_of (kind t i.rest)) ≡ false → is_one_type ws ≡ false → e ≡ Syntax (length i.rest) →
+      Fails (read (all_specifiers t d ws) i) e
+  specifiers_stop i ws e may is syntax =
+      let f : Fails {B = Specifiers} (refused i.rest) (Syntax (length i.rest)) = record { says = refl } in
+      subst (λ o. Fails o e) (sym (ended ws i false is may)) (subst (λ r. Fails {B = Specifiers} (refused i.rest) r) (sym syntax) f)
+
+  -- ---- a specifier takes a token
+
+  specifier_leaves : (n : ℕ) (x : Start) (i : Input) → length (tail_of i.rest) ≤ n → Leaves n (perform (a_specifier t d x) i)
+  specifier_leaves n (s.Word x) i h = h
+  specifier_leaves n s.TypeName i h = h
+  specifier_leaves n s.Struct i h = perform_leaves n (body.call (a_struct t d) done) (next i) h
+  specifier_leaves n s.Enum i h = perform_leaves n (body.call (an_enum t d) done) (next i) h
+
+  tail_shorter : (ws : List TypeWord) (ts : Tokens) → goes_on ws (start_of (kind t ts)) ≡ true → length (tail_of ts) < length ts
+  tail_shorter ws [] may =
+      let e : false ≡ true = sym (ap (λ z. goes_on ws (start_of z)) (kind_end t)) ∙ may in
+      absurd cc
+  tail_shorter ws (y ∷ ts) may = omega arith
+
+  pub specifiers_shorter : (i j : Input) (ws new : List TypeWord) (x : Start) (v : Specifier) → Follows (start_of (kind t i.rest)) ws x new → perform (a_specifier t d x) i ≡ got v j.rest j.meter →
+      length j.rest < length i.rest
+  specifiers_shorter i j ws new x v h e =
+      let l : length j.rest ≤ length (tail_of i.rest) = subst (λ o. Leaves (length (tail_of i.rest)) o) e (specifier_leaves (length (tail_of i.rest)) x i (omega arith)) in
+      omega (arith, tail_shorter ws i.rest h.goes)
+
+-- the list of all of them
+pub before_none : (xs : List Specifier) → before specifiers xs no_specifiers ≡ specifiers_of xs
+before_none [] = refl
+before_none (x ∷ xs) = ap (specifiers x) (before_none xs)
+
+-- what the words say of the next token
+pub followed : (here there : Kind) (old new : List TypeWord) (o : Option Start) (x : Start) → Goes (start_of here) old o new → o ≡ Some x → here ≡ there → Follows (start_of there) old x new
+followed here there old new o x h some is = subst (λ z. Follows (start_of z) old x new) is (subst (λ z. Goes (start_of here) old z new) some h)
+
+pub ends_here : (here there : Kind) (old new : List TypeWord) (o : Option Start) → Goes (start_of here) old o new → o ≡ None → here ≡ there → Ends (start_of there) old new
+ends_here here there old new o h none is = subst (λ z. Ends (start_of z) old new) is (subst (λ z. Goes (start_of here) old z new) none h)
+
+-- nothing was read
+pub specifiers_begin : (t : Types) (d : ℕ) (i : Input) (ws : List TypeWord) (xs : List Specifier) → xs ≡ [] → ws ≡ [] →
+    Loop specifiers xs (read (all_specifiers t d ws) i) (read (all_specifiers t d []) i)
+specifiers_begin t d i ws xs none first = subst (λ z. Loop specifiers xs (read (all_specifiers t d z) i) (read (all_specifiers t d []) i)) (sym first) (loop_begins xs (read (all_specifiers t d []) i) none)

@@ -1,0 +1,14 @@
+use Rattle.std.proofs.Common.{[], map, length}
+use Rattle.c_tree.specs.Tree.{specifiers}
+use Rattle.c_tree.specs.View.{view_specifier}
+use Rattle.c_grammar.specs.Reading.{read}
+use Rattle.c_grammar.specs.Rules.{all_specifiers}
+use Rattle.expression_parser.proofs.Loops.{Loop}
+use Rattle.type_parser.proofs.specifier.specifiers.Given as goal
+
+abbrev pub invariant-loop-words : goal.invariant-loop-words
+invariant-loop-words g l =
+    Loop specifiers (map view_specifier l.found) (read (all_specifiers l.grammar.types.now l.d l.words) l.cursor) (read (all_specifiers l.fn.grammar.types.now l.fn.d []) l.fn.cursor)
+
+abbrev pub decreases-loop-words : goal.decreases-loop-words
+decreases-loop-words g l = length l.cursor.rest

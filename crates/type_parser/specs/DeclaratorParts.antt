@@ -1,0 +1,35 @@
+-- Parts of the rules of declarators that are functions of their own.
+use Rattle.std.specs.Prelude.{ℕ, List, Option, Some, None}
+use Rattle.c_tree.specs.Tree.{Name, Quals, Stars, Expression, Sizes, open_size, size, DeclaratorTree, BareTree, bare_pointer}
+use Rattle.c_grammar.specs.declared.kind.Kind.{Kind}
+use Rattle.c_grammar.specs.declared.kind.Kind.TheVariants as k
+use Rattle.c_grammar.specs.Body as body
+use Rattle.c_grammar.specs.Body.{done, look}
+use Rattle.c_grammar.specs.Rules.{Types, Reads, skip, expect, named_by, pointed, all_quals, all_parameters, an_expression}
+
+-- a star, and its qualifiers
+abbrev pub star : Reads Quals
+star = skip (body.call all_quals done)
+
+-- a size before the others, or brackets alone
+abbrev pub sized : Option Expression → Sizes → Sizes
+sized None xs = open_size xs
+sized (Some x) xs = size x xs
+
+-- behind an opening bracket: a size, or none, and the closing bracket
+abbrev pub bracketed_by : Types → ℕ → Kind → Reads (Option Expression)
+bracketed_by t d k.CloseBracket = skip (done None)
+bracketed_by t d _ = body.call (an_expression t d 3 1) (λ x. expect k.CloseBracket (done (Some x)))
+
+-- a size in its brackets, or the brackets alone
+abbrev pub bracketed : Types → ℕ → Reads (Option Expression)
+bracketed t d = skip (look t (bracketed_by t d))
+
+-- behind the bracket of a pointer to a function, whose name is none of these
+abbrev pub pointer_from : Types → ℕ → List Name → Stars → Reads DeclaratorTree
+pointer_from t d ns ss = expect k.Star (body.call all_quals (λ qs. look t (named_by ns (pointed t d ss qs))))
+
+-- the same without a name
+abbrev pub bare_pointer_from : Types → ℕ → Stars → Reads BareTree
+bare_pointer_from t d ss =
+    expect k.Star (body.call all_quals (λ qs. expect k.CloseParen (expect k.OpenParen (body.call (all_parameters t d) (λ ps. done (bare_pointer ss qs ps.0 ps.1))))))

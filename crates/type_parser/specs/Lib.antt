@@ -1,0 +1,4 @@
+pub mod DeclaratorParts
+pub mod ParameterList
+pub mod SpecifierWords
+pub mod Tagged

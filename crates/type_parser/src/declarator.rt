@@ -1,0 +1,250 @@
+//! Declarators.
+
+ghost use Rattle.std.specs.Prelude.{◌≡◌, ◌≤◌, [], map, option_map};
+ghost use Rattle.c_tree.specs.View.{view_expression, view_declarator, view_bare, sizes_of};
+ghost use Rattle.c_grammar.specs.Body.{look};
+ghost use Rattle.c_grammar.specs.Performing.{perform};
+ghost use Rattle.c_grammar.specs.Reading.{read};
+ghost use Rattle.c_grammar.specs.Rules.{all_sizes, at_most_one_size, a_declarator, a_bare, declared_by, named_by, pointed};
+ghost use Rattle.expression_parser.specs.Gives.{Gives};
+ghost use Rattle.expression_parser.specs.Nests.{Nests};
+ghost use Rattle.type_parser.specs.DeclaratorParts.{bracketed, pointer_from, bare_pointer_from};
+
+use crate::pointer::{quals, stars};
+use base_core::Lexeme;
+use c_grammar::{Cursor, Kind, same_kind};
+use c_tree::{Bare, Declarator, Expr, Quals, Stars};
+use expression_parser::grammar::{Found, Grammar, Nested};
+use expression_parser::refusal::Refusal;
+use expression_parser::steps::{expect, kind, refused, word};
+use program_scope::Types;
+use sqlite_items::Items;
+use std::alloc::Global;
+
+/// A size in its brackets, or the brackets alone.
+fn bracketed<F: Fn(Global, &Types, &mut Cursor<'_>, usize, u32, Nested) -> Result<Found, Refusal>>(
+    grammar: &Grammar<'_, F>,
+    cursor: &mut Cursor<'_>,
+    d: u32,
+) -> Result<Option<Expr>, Refusal>
+    requires nests { Nests grammar.now.budget (F.pre grammar.now.read) (F.post grammar.now.read) }
+    requires small { d ≤ 1001 }
+    ensures { Gives (option_map view_expression) (perform (bracketed grammar.now.types.now d) cursor.old) result cursor.new }
+{
+    cursor.take();
+    match kind(grammar.types, cursor) {
+        Kind::CloseBracket => {
+            cursor.take();
+            Ok(None)
+        }
+        _ => {
+            let size = grammar.expression(cursor, d, 3, 1)?;
+            expect(cursor, Kind::CloseBracket)?;
+            Ok(Some(size))
+        }
+    }
+}
+
+/// The sizes of an array.
+pub fn sizes<F: Fn(Global, &Types, &mut Cursor<'_>, usize, u32, Nested) -> Result<Found, Refusal>>(
+    grammar: &Grammar<'_, F>,
+    cursor: &mut Cursor<'_>,
+    d: u32,
+) -> Result<Items<Option<Expr>>, Refusal>
+    requires nests { Nests grammar.now.budget (F.pre grammar.now.read) (F.post grammar.now.read) }
+    requires small { d ≤ 1001 }
+    ensures { Gives (λ xs. sizes_of (map (option_map view_expression) xs)) (read (all_sizes grammar.now.types.now d) cursor.old) result cursor.new }
+{
+    let mut found = Items::new(grammar.alloc);
+    while same_kind(cursor.kind(), Kind::OpenBracket) {
+        found.push(bracketed(grammar, cursor, d)?)?;
+    }
+    Ok(found)
+}
+
+/// The size of an array of pointers to functions, if there is one.
+#[tactic(auto, using(crate::proofs::DeclaratorLists::one_begins, crate::proofs::DeclaratorLists::one_size_of))]
+pub fn one_size<
+    F: Fn(Global, &Types, &mut Cursor<'_>, usize, u32, Nested) -> Result<Found, Refusal>,
+>(grammar: &Grammar<'_, F>, cursor: &mut Cursor<'_>, d: u32) -> Result<Items<Option<Expr>>, Refusal>
+    requires nests { Nests grammar.now.budget (F.pre grammar.now.read) (F.post grammar.now.read) }
+    requires small { d ≤ 1001 }
+    ensures { Gives (λ xs. sizes_of (map (option_map view_expression) xs)) (read (at_most_one_size grammar.now.types.now d) cursor.old) result cursor.new }
+{
+    match cursor.kind() {
+        Kind::OpenBracket => {
+            let size = bracketed(grammar, cursor, d)?;
+            let mut found = Items::new(grammar.alloc);
+            found.push(size)?;
+            Ok(found)
+        }
+        _ => Ok(Items::new(grammar.alloc)),
+    }
+}
+
+/// Behind the stars and the name of a declarator.
+#[tactic(auto, using(c_tree::proofs::ViewLemmas::view_Declarator_Plain, c_tree::proofs::ViewLemmas::view_Declarator_Array, c_tree::proofs::ViewLemmas::view_Declarator_Function))]
+fn declared<F: Fn(Global, &Types, &mut Cursor<'_>, usize, u32, Nested) -> Result<Found, Refusal>>(
+    grammar: &Grammar<'_, F>,
+    cursor: &mut Cursor<'_>,
+    d: u32,
+    may_be_function: bool,
+    stars: Stars,
+    name: Lexeme,
+) -> Result<Declarator, Refusal>
+    requires nests { Nests grammar.now.budget (F.pre grammar.now.read) (F.post grammar.now.read) }
+    requires small { d ≤ 1001 }
+    ensures { Gives view_declarator (perform (look [] (declared_by grammar.now.types.now d may_be_function stars name)) cursor.old) result cursor.new }
+{
+    match cursor.kind() {
+        Kind::OpenBracket => {
+            let sizes = sizes(grammar, cursor, d)?;
+            Ok(Declarator::Array(stars, name, sizes))
+        }
+        Kind::OpenParen => {
+            if may_be_function {
+                cursor.take();
+                let params = grammar.parameters(cursor, d)?;
+                Ok(Declarator::Function(stars, name, params))
+            } else {
+                Ok(Declarator::Plain(stars, name))
+            }
+        }
+        _ => Ok(Declarator::Plain(stars, name)),
+    }
+}
+
+/// Behind the name of a pointer to a function.
+#[tactic(auto, using(c_tree::proofs::ViewLemmas::view_Declarator_Pointer))]
+fn pointed<F: Fn(Global, &Types, &mut Cursor<'_>, usize, u32, Nested) -> Result<Found, Refusal>>(
+    grammar: &Grammar<'_, F>,
+    cursor: &mut Cursor<'_>,
+    d: u32,
+    stars: Stars,
+    quals: Quals,
+    name: Lexeme,
+) -> Result<Declarator, Refusal>
+    requires nests { Nests grammar.now.budget (F.pre grammar.now.read) (F.post grammar.now.read) }
+    requires small { d ≤ 1001 }
+    ensures { Gives view_declarator (perform (pointed grammar.now.types.now d stars quals name) cursor.old) result cursor.new }
+{
+    let sizes = one_size(grammar, cursor, d)?;
+    expect(cursor, Kind::CloseParen)?;
+    expect(cursor, Kind::OpenParen)?;
+    let params = grammar.parameters(cursor, d)?;
+    Ok(Declarator::Pointer(stars, quals, name, sizes, params))
+}
+
+/// Behind the star of a pointer to a function and its qualifiers: its name, which is none of these, and what follows.
+fn named<F: Fn(Global, &Types, &mut Cursor<'_>, usize, u32, Nested) -> Result<Found, Refusal>>(
+    grammar: &Grammar<'_, F>,
+    cursor: &mut Cursor<'_>,
+    d: u32,
+    taken: &Types,
+    stars: Stars,
+    quals: Quals,
+) -> Result<Declarator, Refusal>
+    requires nests { Nests grammar.now.budget (F.pre grammar.now.read) (F.post grammar.now.read) }
+    requires small { d ≤ 1001 }
+    ensures { Gives view_declarator (perform (look grammar.now.types.now (named_by taken.now (pointed grammar.now.types.now d stars quals))) cursor.old) result cursor.new }
+{
+    match kind(grammar.types, cursor) {
+        Kind::Name => {
+            let name = word(grammar.alloc, cursor)?;
+            if taken.contains(name.as_bytes()) {
+                Err(refused(cursor))
+            } else {
+                pointed(grammar, cursor, d, stars, quals, name)
+            }
+        }
+        _ => Err(refused(cursor)),
+    }
+}
+
+/// Behind the bracket of a pointer to a function.
+fn pointer<F: Fn(Global, &Types, &mut Cursor<'_>, usize, u32, Nested) -> Result<Found, Refusal>>(
+    grammar: &Grammar<'_, F>,
+    cursor: &mut Cursor<'_>,
+    d: u32,
+    taken: &Types,
+    stars: Stars,
+) -> Result<Declarator, Refusal>
+    requires nests { Nests grammar.now.budget (F.pre grammar.now.read) (F.post grammar.now.read) }
+    requires small { d ≤ 1001 }
+    ensures { Gives view_declarator (perform (pointer_from grammar.now.types.now d taken.now stars) cursor.old) result cursor.new }
+{
+    expect(cursor, Kind::Star)?;
+    let quals = quals(grammar.alloc, cursor)?;
+    named(grammar, cursor, d, taken, stars, quals)
+}
+
+/// A declarator, perhaps of a function, of a name that is none of these.
+#[tactic(auto, using(expression_parser::proofs::Opens::declarator_performs))]
+pub fn declarator<
+    F: Fn(Global, &Types, &mut Cursor<'_>, usize, u32, Nested) -> Result<Found, Refusal>,
+>(
+    grammar: &Grammar<'_, F>,
+    cursor: &mut Cursor<'_>,
+    d: u32,
+    may_be_function: bool,
+    taken: &Types,
+) -> Result<Declarator, Refusal>
+    requires nests { Nests grammar.now.budget (F.pre grammar.now.read) (F.post grammar.now.read) }
+    requires small { d ≤ 1001 }
+    ensures { Gives view_declarator (read (a_declarator grammar.now.types.now d may_be_function taken.now) cursor.old) result cursor.new }
+{
+    let stars = stars(grammar.alloc, cursor)?;
+    match kind(grammar.types, cursor) {
+        Kind::Name => {
+            let name = word(grammar.alloc, cursor)?;
+            if taken.contains(name.as_bytes()) {
+                Err(refused(cursor))
+            } else {
+                declared(grammar, cursor, d, may_be_function, stars, name)
+            }
+        }
+        Kind::OpenParen => {
+            cursor.take();
+            pointer(grammar, cursor, d, taken, stars)
+        }
+        _ => Err(refused(cursor)),
+    }
+}
+
+/// Behind the bracket of a pointer to a function without a name.
+#[tactic(auto, using(c_tree::proofs::ViewLemmas::view_Bare_Pointer))]
+fn bare_pointer<
+    F: Fn(Global, &Types, &mut Cursor<'_>, usize, u32, Nested) -> Result<Found, Refusal>,
+>(grammar: &Grammar<'_, F>, cursor: &mut Cursor<'_>, d: u32, stars: Stars) -> Result<Bare, Refusal>
+    requires nests { Nests grammar.now.budget (F.pre grammar.now.read) (F.post grammar.now.read) }
+    requires small { d ≤ 1001 }
+    ensures { Gives view_bare (perform (bare_pointer_from grammar.now.types.now d stars) cursor.old) result cursor.new }
+{
+    expect(cursor, Kind::Star)?;
+    let quals = quals(grammar.alloc, cursor)?;
+    expect(cursor, Kind::CloseParen)?;
+    expect(cursor, Kind::OpenParen)?;
+    let params = grammar.parameters(cursor, d)?;
+    Ok(Bare::Pointer(stars, quals, params))
+}
+
+/// The stars of a type without a name, or a pointer to a function.
+#[tactic(auto, using(expression_parser::proofs::Opens::bare_performs, c_tree::proofs::ViewLemmas::view_Bare_Plain))]
+pub fn bare<F: Fn(Global, &Types, &mut Cursor<'_>, usize, u32, Nested) -> Result<Found, Refusal>>(
+    grammar: &Grammar<'_, F>,
+    cursor: &mut Cursor<'_>,
+    d: u32,
+) -> Result<Bare, Refusal>
+    requires nests { Nests grammar.now.budget (F.pre grammar.now.read) (F.post grammar.now.read) }
+    requires small { d ≤ 1001 }
+    ensures { Gives view_bare (read (a_bare grammar.now.types.now d) cursor.old) result cursor.new }
+{
+    let stars = stars(grammar.alloc, cursor)?;
+    match cursor.kind() {
+        Kind::OpenParen => {
+            cursor.take();
+            bare_pointer(grammar, cursor, d, stars)
+        }
+        _ => Ok(Bare::Plain(stars)),
+    }
+}

@@ -1,0 +1,90 @@
+//! Types and the specifiers of declarations.
+
+ghost use Rattle.std.specs.Prelude.{◌≡◌, ◌≤◌, [], map};
+ghost use Rattle.c_tree.specs.View.{view_specifier, view_type, specifiers_of};
+ghost use Rattle.c_grammar.specs.Reading.{read};
+ghost use Rattle.c_grammar.specs.Rules.{a_type, all_specifiers};
+ghost use Rattle.expression_parser.specs.Gives.{Gives};
+ghost use Rattle.expression_parser.specs.Nests.{Nests};
+ghost use Rattle.expression_parser.specs.Performing.{perform};
+ghost use Rattle.type_parser.specs.SpecifierWords.{a_specifier};
+
+use crate::declarator::bare;
+use crate::tagged::{enumeration, structure};
+use crate::words::{Start, Words, keyword};
+use c_grammar::Cursor;
+use c_tree::{SpecWord, Specs, TypeName};
+use expression_parser::grammar::{Found, Grammar, Nested};
+use expression_parser::refusal::Refusal;
+use expression_parser::steps::{kind, refused, word};
+use program_scope::Types;
+use sqlite_items::Items;
+use std::alloc::Global;
+
+/// The type that a cast or sizeof names.
+#[tactic(auto, using(expression_parser::proofs::Opens::type_performs, c_tree::proofs::ViewLemmas::view_TypeName))]
+pub fn type_name<
+    F: Fn(Global, &Types, &mut Cursor<'_>, usize, u32, Nested) -> Result<Found, Refusal>,
+>(grammar: &Grammar<'_, F>, cursor: &mut Cursor<'_>, d: u32) -> Result<TypeName, Refusal>
+    requires nests { Nests grammar.now.budget (F.pre grammar.now.read) (F.post grammar.now.read) }
+    requires small { d ≤ 1001 }
+    ensures { Gives view_type (read (a_type grammar.now.types.now d) cursor.old) result cursor.new }
+{
+    let specs = specifiers(grammar, cursor, d)?;
+    let bare = bare(grammar, cursor, d)?;
+    Ok(TypeName { specs, bare })
+}
+
+/// The specifiers of one type.
+pub fn specifiers<
+    F: Fn(Global, &Types, &mut Cursor<'_>, usize, u32, Nested) -> Result<Found, Refusal>,
+>(grammar: &Grammar<'_, F>, cursor: &mut Cursor<'_>, d: u32) -> Result<Specs, Refusal>
+    requires nests { Nests grammar.now.budget (F.pre grammar.now.read) (F.post grammar.now.read) }
+    requires small { d ≤ 1001 }
+    ensures { Gives (λ ws. specifiers_of (map view_specifier ws)) (read (all_specifiers grammar.now.types.now d []) cursor.old) result cursor.new }
+{
+    let mut found = Items::new(grammar.alloc);
+    let mut words = Words::new(grammar.alloc);
+    while let Some(start) = words.follow(kind(grammar.types, cursor))? {
+        found.push(specifier(grammar, cursor, d, start)?)?;
+    }
+    if words.is_whole() {
+        Ok(found)
+    } else {
+        Err(refused(cursor))
+    }
+}
+
+/// One specifier.
+#[tactic(auto, using(c_tree::proofs::ViewLemmas::view_SpecWord_TypeName))]
+fn specifier<F: Fn(Global, &Types, &mut Cursor<'_>, usize, u32, Nested) -> Result<Found, Refusal>>(
+    grammar: &Grammar<'_, F>,
+    cursor: &mut Cursor<'_>,
+    d: u32,
+    start: Start,
+) -> Result<SpecWord, Refusal>
+    requires nests { Nests grammar.now.budget (F.pre grammar.now.read) (F.post grammar.now.read) }
+    requires small { d ≤ 1001 }
+    ensures { Gives view_specifier (perform (a_specifier grammar.now.types.now d start) cursor.old) result cursor.new }
+{
+    match start {
+        Start::Word(found) => {
+            cursor.take();
+            Ok(keyword(found))
+        }
+        Start::TypeName => {
+            let name = word(grammar.alloc, cursor)?;
+            Ok(SpecWord::TypeName(name))
+        }
+        Start::Struct => {
+            cursor.take();
+            let found = structure(grammar, cursor, d)?;
+            Ok(found)
+        }
+        Start::Enum => {
+            cursor.take();
+            let found = enumeration(grammar, cursor, d)?;
+            Ok(found)
+        }
+    }
+}

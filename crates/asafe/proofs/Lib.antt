@@ -1,3 +1,4 @@
 pub mod Putting
 pub mod Conditions
 pub mod Texts
+pub mod Endings

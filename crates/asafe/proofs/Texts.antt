@@ -1,15 +1,21 @@
 -- Texts that are scanned and parsed.
-use Rattle.std.proofs.Common.{◌≡◌, ◌∙◌, ap, refl, ℕ, List, Ok, Err, Result, true, false, sym}
+use Rattle.std.proofs.Common.{◌≡◌, ◌∙◌, ap, subst, ℕ, suc, ◌<◌, ◌≤◌, ◌⊎◌, inl, inr, List, length, take, Ok, Result, true, false, sym, arith}
 use Rattle.base_core.specs.declared.token.Token.{Token}
-use Rattle.c_lexer.specs.Lexis.{Lexis, lexis, Gives}
+use Rattle.c_lexer.specs.Lexis.{Lexis, lexis}
 use Rattle.c_lexer.specs.declared.fault.LexFault.{LexFault}
-use Rattle.c_lexer.specs.declared.fault.LexFault.TheVariants as fault
 use Rattle.c_tree.specs.FlatTree.{FlatTree}
 use Rattle.c_tree.specs.FlatShape.{IsFlat}
 use Rattle.c_tree.specs.FlatSpelling.{spell}
+use Rattle.c_tree.specs.Tree.{ItemTree}
+use Rattle.c_tree.specs.Shape.{Shape}
+use Rattle.c_tree.specs.Spelling as whole
+use Rattle.c_tree.specs.Limits.{WithinLimits, NestsAtMost}
+use Rattle.c_parser.specs.Faults.{BeginsWith, NoneWithinLimitsBegins, IsFirstNested}
 use Rattle.run_model.proofs.Sound.{sound}
 use Rattle.asafe.specs.Condition.{are_safe}
-use Rattle.asafe.specs.Text.{HasTokens, Spells, KeepsTheRules, IsRefusedText, IsNotFlat}
+use Rattle.asafe.specs.declared.misfit.Misfit.{Misfit}
+use Rattle.asafe.specs.declared.misfit.Misfit.TheVariants as misfit
+use Rattle.asafe.specs.Text.{HasTokens, Spells, KeepsTheRules, IsRefusedText, IsMisfit}
 use Rattle.asafe.proofs.Conditions.{accepted, not_accepted}
 
 same_ok : (a b : Lexis) → ◌≡◌ {A = Result Lexis LexFault} (Ok a) (Ok b) → a ≡ b
@@ -26,7 +32,7 @@ spells_of : (text : List ℕ) (read : Lexis) (t : FlatTree) → Reads text read 
 spells_of text read t reads = record { flat = reads.flat; tokens = (read, reads.lexed, sym reads.spelled) }
 
 -- a text has one token list
-tokens_only : (text : List ℕ) (read : Lexis) (ts : List Token) → lexis text ≡ Ok read → HasTokens text ts → ts ≡ read.tokens
+pub tokens_only : (text : List ℕ) (read : Lexis) (ts : List Token) → lexis text ≡ Ok read → HasTokens text ts → ts ≡ read.tokens
 tokens_only text read ts lexed has = sym has.2 ∙ ap (λ (l : Lexis). l.tokens) (same_ok has.0 read (sym has.1 ∙ lexed))
 
 only_of : (text : List ℕ) (read : Lexis) (t : FlatTree) → Reads text read t → (u : FlatTree) → Spells text u → u ≡ t
@@ -49,19 +55,26 @@ refuses text read t reads unsafe = record {
   refused = not_accepted t unsafe;
 }
 
--- no tree has the tokens
-pub is_not_flat : (text : List ℕ) (read : Lexis) → lexis text ≡ Ok read → ((u : FlatTree) → IsFlat u → spell u ≡ read.tokens → ⊥) → IsNotFlat text
-is_not_flat text read lexed none = record {
-  read = read;
-  tokens = lexed;
-  none = λ u spells. none u spells.flat (tokens_only text read (spell u) lexed spells.tokens);
-}
+-- ---- the tokens of programs within the limits
 
--- a fault that isn't want of memory is that of the text
-pub fault_is : (text : List ℕ) (e : LexFault) → Gives (Err e) (lexis text) → (e ≡ fault.NoMemory → ⊥) → lexis text ≡ Err e
-fault_is text (fault.BadByte place) gives other = gives
-fault_is text (fault.OpenComment place) gives other = gives
-fault_is text (fault.OpenLiteral place) gives other = gives
-fault_is text (fault.NumberTooLarge place) gives other = gives
-fault_is text (fault.Directive place) gives other = gives
-fault_is text fault.NoMemory gives other = absurd (other refl)
+less_or_same : (k n : ℕ) → k ≤ n → (k < n) ⊎ (k ≡ n)
+less_or_same k n within = grind arith
+
+-- tokens begin with those up to each of them
+begins_at : (ts : List Token) (k : ℕ) (xs : List ItemTree) → whole.spell xs ≡ ts → (k < length ts) ⊎ (k ≡ length ts) → BeginsWith ts k xs
+begins_at ts k xs same (inl less) = inl (less, ap (take (suc k)) same)
+begins_at ts k xs same (inr equal) = inr (equal, same)
+
+begins : (ts : List Token) (k : ℕ) (xs : List ItemTree) → k ≤ length ts → whole.spell xs ≡ ts → BeginsWith ts k xs
+begins ts k xs within same = begins_at ts k xs same (less_or_same k (length ts) within)
+
+nests : (k : ℕ) (ts : List Token) → NestsAtMost 100 ts → IsFirstNested ts k → ⊥
+nests k ts nested is = let most = nested (suc k) in let more = is.more in omega arith
+
+-- the tokens of a program within the limits have none that doesn't fit, and none that passes a limit
+pub all_fit : (misfit : Misfit) (k : ℕ) (ts : List Token) (xs : List ItemTree) → Shape xs → WithinLimits xs → whole.spell xs ≡ ts → IsMisfit misfit ts k → ⊥
+all_fit misfit.Syntax k ts xs shape limits same is = is.none xs shape (begins ts k xs is.within same)
+all_fit misfit.Nested k ts xs shape limits same is = nests k (whole.spell xs) limits.brackets (subst (λ us. IsFirstNested us k) (sym same) is)
+
+pub none_passes : (k : ℕ) (ts : List Token) (xs : List ItemTree) → Shape xs → WithinLimits xs → whole.spell xs ≡ ts → NoneWithinLimitsBegins ts k → ⊥
+none_passes k ts xs shape limits same is = is.none xs shape limits (begins ts k xs is.within same)

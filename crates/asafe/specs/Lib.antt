@@ -2,8 +2,9 @@ pub mod Status
 pub mod Words
 pub mod Condition
 pub mod Text
+pub mod Deciding
 pub mod FaultLine
 pub mod Ending
-pub mod Answers
 pub mod Printing
+pub mod Answers
 pub mod Ends

@@ -14,7 +14,8 @@ code_of NoMemory = 6
 code_of TooLarge = 7
 code_of NotYet = 8
 
--- where there is no finding, the number of findings; else nothing, but for the line of a fault of the text
+-- where there is no finding, the number of findings; else nothing, but for the line of a text that is not in the subset or too
+-- large
 abbrev pub text_of : Status → List ℕ
 text_of Yes = codes "findings: 0\n"
 text_of _ = []

@@ -1,5 +1,5 @@
--- What is said of texts: which program a text spells, and what no run of it does.
-use Rattle.std.specs.Prelude.{◌≡◌, ℕ, List, Ok, Err}
+-- What is said of texts: which program a text spells, what no run of it does, and why a text spells none.
+use Rattle.std.specs.Prelude.{◌≡◌, ◌⊎◌, ℕ, ◌<◌, ◌≤◌, List, length, Ok, Err}
 use Rattle.base_core.specs.declared.token.Token.{Token}
 use Rattle.c_lexer.specs.Lexis.{Lexis, lexis}
 use Rattle.c_lexer.specs.declared.fault.LexFault.{LexFault}
@@ -7,19 +7,22 @@ use Rattle.c_tree.specs.FlatTree.{FlatTree}
 use Rattle.c_tree.specs.FlatShape.{IsFlat}
 use Rattle.c_tree.specs.FlatSpelling.{spell}
 use Rattle.c_tree.specs.FlatCondition.{IsAccepted}
+use Rattle.c_tree.specs.Tree.{ItemTree}
+use Rattle.c_tree.specs.Shape.{Shape}
+use Rattle.c_tree.specs.Spelling as whole
+use Rattle.c_tree.specs.Limits.{WithinLimits}
+use Rattle.c_parser.specs.Faults.{NoneBegins, NoneWithinLimitsBegins, IsFirstNested}
 use Rattle.run_model.specs.World.{World, IsStart}
 use Rattle.run_model.specs.Steps.{Run, GoesOn}
 use Rattle.run_model.specs.Breaches.{BreaksNone}
-use Rattle.asafe.specs.declared.decision.Decision.{Decision}
-use Rattle.asafe.specs.declared.decision.Decision.TheVariants.{Accepted, Refused, NotFlat, Faulty}
+use Rattle.asafe.specs.declared.misfit.Misfit.{Misfit}
+use Rattle.asafe.specs.declared.misfit.Misfit.TheVariants.{Syntax, Nested}
 
 -- the tokens of the text are these, in order
 abbrev pub HasTokens : List ℕ → List Token → Type 0
 HasTokens text ts = (l : Lexis) × (lexis text ≡ Ok l) × (l.tokens ≡ ts)
 
--- the text has a fault of the lexis
-abbrev pub HasFault : List ℕ → Type 0
-HasFault text = (fault : LexFault) × (lexis text ≡ Err fault)
+-- ---- flat programs
 
 -- the text spells the flat program
 pub record Spells (text : List ℕ) (t : FlatTree) : Type 0 where
@@ -42,14 +45,58 @@ pub record IsRefusedText (text : List ℕ) : Type 0 where
   pub only : (u : FlatTree) → Spells text u → u ≡ tree
   pub refused : ¬ IsAccepted tree
 
--- the text has tokens, and spells no flat program
+-- ---- programs of the whole grammar
+
+-- the text spells the program
+pub record SpellsProgram (text : List ℕ) (items : List ItemTree) : Type 0 where
+  pub shape : Shape items
+  pub tokens : HasTokens text (whole.spell items)
+
+-- the text spells exactly one program, which is within the limits, and no flat one
 pub record IsNotFlat (text : List ℕ) : Type 0 where
-  pub read : Lexis
-  pub tokens : lexis text ≡ Ok read
+  pub items : List ItemTree
+  pub spells : SpellsProgram text items
+  pub only : (others : List ItemTree) → SpellsProgram text others → others ≡ items
+  pub limits : WithinLimits items
   pub none : (t : FlatTree) → ¬ Spells text t
 
-abbrev pub Decides : List ℕ → Decision → Type 0
-Decides text Accepted = KeepsTheRules text
-Decides text Refused = IsRefusedText text
-Decides text NotFlat = IsNotFlat text
-Decides text (Faulty fault) = lexis text ≡ Err fault
+-- the text is not too long, and spells a program within the limits
+pub record IsInSubset (text : List ℕ) : Type 0 where
+  pub short : length text ≤ 1048576
+  pub items : List ItemTree
+  pub spells : SpellsProgram text items
+  pub limits : WithinLimits items
+
+-- ---- texts that spell no program within the limits
+
+-- no program's tokens begin with those up to token k, or more than 100 brackets are open at it for the first time
+abbrev pub IsMisfit : Misfit → List Token → ℕ → Type 0
+IsMisfit Syntax ts k = NoneBegins ts k
+IsMisfit Nested ts k = IsFirstNested ts k
+
+-- the text has tokens, of which token k doesn't fit
+pub record HasMisfit (text : List ℕ) (misfit : Misfit) (read : Lexis) (k : ℕ) : Type 0 where
+  pub lexed : lexis text ≡ Ok read
+  pub cause : IsMisfit misfit read.tokens k
+
+-- the text has a fault of the lexis, or tokens of which one doesn't fit
+abbrev pub HasFault : List ℕ → Type 0
+HasFault text = ((fault : LexFault) × (lexis text ≡ Err fault)) ⊎ ((misfit : Misfit) × (read : Lexis) × (k : ℕ) × HasMisfit text misfit read k)
+
+-- the text has tokens, and no program within the limits begins with those up to one of them
+pub record PassesLimits (text : List ℕ) : Type 0 where
+  pub read : Lexis
+  pub lexed : lexis text ≡ Ok read
+  pub token : ℕ
+  pub cause : NoneWithinLimitsBegins read.tokens token
+
+-- the text is too long, or passes the limits
+abbrev pub IsTooLarge : List ℕ → Type 0
+IsTooLarge text = (1048576 < length text) ⊎ PassesLimits text
+
+-- the text is not too long, and has fewer than 900 tokens
+pub record IsSmall (text : List ℕ) : Type 0 where
+  pub short : length text ≤ 1048576
+  pub read : Lexis
+  pub lexed : lexis text ≡ Ok read
+  pub few : length read.tokens < 900

@@ -1,36 +1,35 @@
-ghost use Rattle.std.specs.Prelude.{◌≤◌, length, IfOk};
-ghost use Rattle.asafe.specs.Text.{Decides};
+ghost use Rattle.std.specs.Prelude.{IfOk};
+ghost use Rattle.asafe.specs.Deciding.{IsProgram, Decides};
 
 use crate::condition::are_safe;
+use crate::misfit::Misfit;
 use base_core::NoMemory;
-use c_lexer::{LexFault, scan};
+use c_lexer::Tokens;
+use c_parser::{ParseFault, parse};
 use flat_parser::{FlatFault, read_flat};
 use std::alloc::Global;
 
-/// What is decided of a text.
+/// What is decided of the tokens of a text.
 #[derive(Clone, Copy, Debug, PartialEq, Eq)]
 pub(crate) enum Decision {
-    /// It is a flat program, and no run of it breaks a rule.
+    /// They spell a flat program, and no run of it breaks a rule.
     Accepted,
-    /// It is a flat program, and the condition on its handlers doesn't hold.
+    /// They spell a flat program, and the condition on its handlers doesn't hold.
     Refused,
-    /// It has tokens, and is no flat program.
+    /// They spell a program within the limits, and no flat program.
     NotFlat,
-    /// It has a fault of the lexis.
-    Faulty(LexFault),
+    /// They spell no program within the limits, since this token doesn't fit; their number where it is the end.
+    Misplaced(Misfit, usize),
+    /// No program within the limits of nodes and depth begins with them.
+    TooLarge,
 }
 
-/// Decides a text of at most 1,048,576 bytes.
-pub(crate) fn decide(alloc: Global, text: &[u8]) -> Result<Decision, NoMemory>
-    requires { length text.now ≤ 1048576 }
-    ensures { IfOk result (λ decision. Decides text.now decision) }
+/// Decides tokens that spell a program within the limits.
+fn decide_flat(alloc: Global, tokens: &Tokens) -> Result<Decision, NoMemory>
+    requires { IsProgram tokens.now }
+    ensures { IfOk result (λ decision. Decides tokens.now decision) }
 {
-    let tokens = match scan(alloc, text) {
-        Ok(tokens) => tokens,
-        Err(LexFault::NoMemory) => return Err(NoMemory),
-        Err(fault) => return Ok(Decision::Faulty(fault)),
-    };
-    match read_flat(alloc, &tokens) {
+    match read_flat(alloc, tokens) {
         Ok(program) => {
             if are_safe(&program) {
                 Ok(Decision::Accepted)
@@ -40,5 +39,18 @@ pub(crate) fn decide(alloc: Global, text: &[u8]) -> Result<Decision, NoMemory>
         }
         Err(FlatFault::NotFlat) => Ok(Decision::NotFlat),
         Err(FlatFault::NoMemory) => Err(NoMemory),
+    }
+}
+
+/// Decides the tokens of a text.
+pub(crate) fn decide(alloc: Global, tokens: &Tokens) -> Result<Decision, NoMemory>
+    ensures { IfOk result (λ decision. Decides tokens.now decision) }
+{
+    match parse(alloc, tokens) {
+        Ok(_) => decide_flat(alloc, tokens),
+        Err(ParseFault::Syntax(token)) => Ok(Decision::Misplaced(Misfit::Syntax, token)),
+        Err(ParseFault::Nested(token)) => Ok(Decision::Misplaced(Misfit::Nested, token)),
+        Err(ParseFault::Large(_)) => Ok(Decision::TooLarge),
+        Err(ParseFault::NoMemory) => Err(NoMemory),
     }
 }

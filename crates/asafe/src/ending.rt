@@ -8,8 +8,10 @@ use crate::Status;
 pub(crate) enum Ending {
     /// It prints the text of its status.
     Plain(Status),
-    /// The text has a fault, which this line tells.
+    /// The text is not in the subset, which this line tells.
     Faulty(String),
+    /// The text is too large, which this line tells.
+    TooLarge(String),
 }
 
 impl Ending {
@@ -19,6 +21,7 @@ impl Ending {
         match self {
             Ending::Plain(status) => *status,
             Ending::Faulty(_) => Status::Text,
+            Ending::TooLarge(_) => Status::TooLarge,
         }
     }
 
@@ -29,6 +32,7 @@ impl Ending {
         match self {
             Ending::Plain(status) => status.text(),
             Ending::Faulty(line) => line.as_bytes(),
+            Ending::TooLarge(line) => line.as_bytes(),
         }
     }
 }

@@ -10,6 +10,7 @@ mod condition;
 mod decision;
 mod ending;
 mod fault_line;
+mod misfit;
 mod put;
 mod status;
 mod words;

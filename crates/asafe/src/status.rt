@@ -10,7 +10,8 @@ pub enum Status {
     Refused,
     /// The words are not those of a command.
     Usage,
-    /// The text has a fault of the lexis.
+    /// The text is not in the subset: it has a fault of the lexis, a token with which no program goes on, or too many open
+    /// brackets.
     Text,
     /// The file was not read.
     ReadFault,
@@ -18,9 +19,9 @@ pub enum Status {
     WriteFault,
     /// There is not enough memory.
     NoMemory,
-    /// The text is too large.
+    /// The text is too long, or its program has too many nodes or too great a depth.
     TooLarge,
-    /// The text is of a form that isn't built yet.
+    /// The text spells a program of the subset that is no flat program. Such programs aren't decided yet.
     NotYet,
 }
 
@@ -42,7 +43,7 @@ impl Status {
         }
     }
 
-    /// What is printed, but for the line of a fault of the text.
+    /// What is printed, but for the line of a text that is not in the subset or too large.
     pub(crate) fn text(self) -> &'static [u8]
         ensures { result.now ≡ text_of self }
     {

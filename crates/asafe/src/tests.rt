@@ -85,10 +85,8 @@ fn texts_are_decided(rt: HostRuntime) -> Result<(), Fail> {
             Status::Yes,
         ),
         // Near misses.
-        ("int main(void){return 0}", Status::NotYet),
         ("int main(void){return 1;}", Status::NotYet),
         ("int main(void){return 00;}", Status::NotYet),
-        ("intmain(void){return 0;}", Status::NotYet),
         // Blanks, comments, `#include` lines and line markers between the tokens.
         ("int main(void){\treturn 0;}", Status::Yes),
         ("int/**/main(void)//\n{return 0;}", Status::Yes),
@@ -97,10 +95,13 @@ fn texts_are_decided(rt: HostRuntime) -> Result<(), Fail> {
             Status::Yes,
         ),
         ("# 7 \"b.c\" 1\nint main(void){return 0;}", Status::Yes),
-        // Tokens that no program of the first form has.
+        // Programs that are not flat.
+        (
+            "static int x; int main(void){x = 1;return 0;}",
+            Status::NotYet,
+        ),
         ("int main(void){return 0x0;}", Status::NotYet),
         ("int main(void){return 'a';}", Status::NotYet),
-        ("int main(void){return 0;} int", Status::NotYet),
         (
             "int main(void){signal(SIGINT, h);return 0;}",
             Status::NotYet,
@@ -153,10 +154,63 @@ fn faults_of_the_lexis_are_told(rt: HostRuntime) -> Result<(), Fail> {
     Ok(())
 }
 
+/// A text that returns 0 in this many brackets.
+fn bracketed(alloc: Global, count: usize) -> Result<String, AllocError> {
+    let mut text = "int main(void){return ".to_string(alloc)?;
+    for _ in 0..count {
+        text.push('(')?;
+    }
+    text.push('0')?;
+    for _ in 0..count {
+        text.push(')')?;
+    }
+    text.push_str(";}")?;
+    Ok(text)
+}
+
+#[test]
+fn tokens_that_do_not_fit_are_told(rt: HostRuntime) -> Result<(), Fail> {
+    let alloc = rt.alloc();
+    let nested = bracketed(alloc, 100)?;
+    // Worked out by hand: a text, and the line that tells its first token that doesn't fit.
+    let texts = [
+        (
+            "int main(void){return 0}",
+            "a.c:1:24: not in the subset: Syntax\n",
+        ),
+        (
+            "intmain(void){return 0;}",
+            "a.c:1:1: not in the subset: Syntax\n",
+        ),
+        // The end of the text.
+        (
+            "int main(void){return 0;} int",
+            "a.c:1:30: not in the subset: Syntax\n",
+        ),
+        (
+            "int x;\n# 7 \"b.c\"\n int 0;",
+            "b.c:7:6: not in the subset: Syntax\n",
+        ),
+        (nested.as_str(), "a.c:1:122: not in the subset: Nested\n"),
+    ];
+    for (text, line) in texts {
+        let (ended, taken, held) = decided(alloc, text)?;
+        assert_eq!(rt; ended, Status::Text, "{text}");
+        assert_eq!(rt; taken.as_slice(), line.as_bytes(), "{text}");
+        assert_eq!(rt; held.as_slice(), text.as_bytes(), "{text}");
+    }
+    assert_eq!(rt;
+        decided(alloc, bracketed(alloc, 99)?.as_str())?.0,
+        Status::NotYet
+    );
+    Ok(())
+}
+
 /// The status and what was put, over a shelf that holds the text and fails at some calls, and a sink with this much room
 /// that takes this much at once and fails at some puts; and whether the shelf holds the text still.
 fn faults(
     alloc: Global,
+    text: &str,
     failing_call: u64,
     room: usize,
     most: usize,
@@ -164,13 +218,13 @@ fn faults(
 ) -> Result<(Status, Vec<u8>, bool), Fail> {
     let words = certify(alloc, "a.c")?;
     let mut shelf = MemShelf::new(alloc);
-    shelf.set("a.c", ABORTS.as_bytes())?;
+    shelf.set("a.c", text.as_bytes())?;
     shelf.fail(failing_call, 0)?;
     let mut out = MemSink::new(alloc, room, most)?;
     out.fail(failing_put)?;
     let status = run(alloc, &words, &mut shelf, &mut out);
     let unchanged = match shelf.contents("a.c") {
-        Some(held) => held == ABORTS.as_bytes(),
+        Some(held) => held == text.as_bytes(),
         None => false,
     };
     Ok((status, out.taken().to_vec(alloc)?, unchanged))
@@ -179,25 +233,44 @@ fn faults(
 #[test]
 fn devices_fail(rt: HostRuntime) -> Result<(), Fail> {
     let alloc = rt.alloc();
-    let cases: [(u64, usize, usize, u64, Status, &str); 9] = [
-        (0, 100, 100, 0, Status::Yes, FINDINGS),
-        (2, 100, 100, 2, Status::Yes, FINDINGS),
-        (0, 12, 1, 0, Status::Yes, FINDINGS),
-        (1, 100, 100, 0, Status::ReadFault, ""),
-        (0, 100, 100, 1, Status::WriteFault, ""),
-        (0, 100, 1, 2, Status::WriteFault, "f"),
-        (0, 100, 0, 0, Status::WriteFault, ""),
-        (0, 0, 100, 0, Status::WriteFault, ""),
-        (0, 11, 4, 0, Status::WriteFault, "findings: 0"),
+    let syntax = "int main(void){return 0}";
+    let cases: [(&str, u64, usize, usize, u64, Status, &str); 12] = [
+        (ABORTS, 0, 100, 100, 0, Status::Yes, FINDINGS),
+        (ABORTS, 2, 100, 100, 2, Status::Yes, FINDINGS),
+        (ABORTS, 0, 12, 1, 0, Status::Yes, FINDINGS),
+        (ABORTS, 1, 100, 100, 0, Status::ReadFault, ""),
+        (ABORTS, 0, 100, 100, 1, Status::WriteFault, ""),
+        (ABORTS, 0, 100, 1, 2, Status::WriteFault, "f"),
+        (ABORTS, 0, 100, 0, 0, Status::WriteFault, ""),
+        (ABORTS, 0, 0, 100, 0, Status::WriteFault, ""),
+        (ABORTS, 0, 11, 4, 0, Status::WriteFault, "findings: 0"),
+        (syntax, 0, 100, 100, 1, Status::WriteFault, ""),
+        (syntax, 0, 100, 4, 2, Status::WriteFault, "a.c:"),
+        (
+            syntax,
+            0,
+            35,
+            100,
+            0,
+            Status::WriteFault,
+            "a.c:1:24: not in the subset: Syntax",
+        ),
     ];
-    for (failing_call, room, most, failing_put, status, put) in cases {
-        let (ended, taken, unchanged) = faults(alloc, failing_call, room, most, failing_put)?;
-        assert_eq!(rt; ended, status, "{failing_call} {room} {most} {failing_put}");
-        assert!(rt; unchanged, "{failing_call} {room} {most} {failing_put}");
+    for (text, failing_call, room, most, failing_put, status, put) in cases {
+        let (ended, taken, unchanged) = faults(alloc, text, failing_call, room, most, failing_put)?;
+        assert_eq!(rt;
+            ended,
+            status,
+            "{text} {failing_call} {room} {most} {failing_put}"
+        );
+        assert!(rt;
+            unchanged,
+            "{text} {failing_call} {room} {most} {failing_put}"
+        );
         assert_eq!(rt;
             taken.as_slice(),
             put.as_bytes(),
-            "{failing_call} {room} {most} {failing_put}"
+            "{text} {failing_call} {room} {most} {failing_put}"
         );
     }
     Ok(())
@@ -230,20 +303,29 @@ fn words_and_names(rt: HostRuntime) -> Result<(), Fail> {
     Ok(())
 }
 
-/// The status of the smallest program with blanks behind it, so that it has this many bytes.
-fn sized(alloc: Global, size: usize) -> Result<Status, Fail> {
+/// The status of the smallest program with blanks behind it, so that it has this many bytes, and what a sink takes that has
+/// this much room.
+fn sized(alloc: Global, size: usize, room: usize) -> Result<(Status, Vec<u8>), Fail> {
     let words = certify(alloc, "a.c")?;
     let mut text = b"int main(void){return 0;}".to_vec(alloc)?;
     text.resize(size, b' ')?;
     let mut shelf = MemShelf::new(alloc);
     shelf.set("a.c", &text)?;
-    let mut out = MemSink::new(alloc, 100, 100)?;
-    Ok(run(alloc, &words, &mut shelf, &mut out))
+    let mut out = MemSink::new(alloc, room, 100)?;
+    let status = run(alloc, &words, &mut shelf, &mut out);
+    Ok((status, out.taken().to_vec(alloc)?))
 }
 
 #[test]
 fn sizes_are_limited(rt: HostRuntime) -> Result<(), Fail> {
-    assert_eq!(rt; sized(rt.alloc(), 1_048_576)?, Status::Yes);
-    assert_eq!(rt; sized(rt.alloc(), 1_048_577)?, Status::TooLarge);
+    let (status, taken) = sized(rt.alloc(), 1_048_576, 100)?;
+    assert_eq!(rt; status, Status::Yes);
+    assert_eq!(rt; taken.as_slice(), FINDINGS.as_bytes());
+    let (status, taken) = sized(rt.alloc(), 1_048_577, 100)?;
+    assert_eq!(rt; status, Status::TooLarge);
+    assert_eq!(rt; taken.as_slice(), "a.c: too large\n".as_bytes());
+    let (status, taken) = sized(rt.alloc(), 1_048_577, 8)?;
+    assert_eq!(rt; status, Status::WriteFault);
+    assert_eq!(rt; taken.as_slice(), "a.c: too".as_bytes());
     Ok(())
 }

@@ -5,8 +5,8 @@ use Rattle.c_tree.specs.Marks.{Tokens, name_token}
 use Rattle.c_tree.specs.TypeWords.{is_among}
 use Rattle.c_grammar.specs.declared.kind.Kind.{Kind}
 use Rattle.c_grammar.specs.declared.kind.Kind.TheVariants as k
-use Rattle.c_grammar.specs.Kind.{kind, same_kind, token_of, IsReal}
-use Rattle.c_grammar.specs.Body.{Body, done, stop, look, take, spend, rise, call, strict, scope, Gauge, reads}
+use Rattle.c_grammar.specs.Kind.{kind, token_of, IsReal}
+use Rattle.c_grammar.specs.Body.{done, stop, look, take, spend, rise, call, strict, scope, Gauge, reads}
 use Rattle.c_grammar.specs.Rules.{Rule, Result, Reads, rule, rank, top, expect, named_by, a_name}
 use Rattle.c_grammar.proofs.KindLemmas.{same_true, head_is, name_head}
 use Rattle.c_grammar.proofs.Sure.{Holds, Sure, all_hold}

@@ -1,6 +1,5 @@
 -- What the rules of declarators and parameters count.
 use Rattle.std.proofs.Common.{◌≡◌, ℕ, suc, sym, subst, ◌+◌, max, List, [], length, refl, ap, arith, length-append, Bool, cond}
-use Rattle.c_tree.specs.TypeWords.{is_among}
 use Rattle.c_tree.specs.Tree.{Name, Quals, Stars, no_sizes, size, Specifiers, no_specifiers, specifiers, void_word, Parameters, no_parameters, parameters, bare_form, bare_stars}
 use Rattle.c_tree.specs.Nodes.{Node, nodes_parameters, nodes_specifiers}
 use Rattle.c_tree.specs.Depth.{depth_parameters, depth_specifiers}
@@ -77,11 +76,11 @@ pointed-by t d f ns ss qs n ts us m = go_call (λ xs vs o p. wants k.CloseParen 
     let a = p before in let b = h (omega arith) in (omega (arith, length-append {A = Node}), omega arith))))))
 
 -- behind the star and the qualifiers of a pointer to a function
-pointer-by : (t : Types) (d : ℕ) (f : Bool) (ns : List Name) (ss : Stars) (qs : Quals) (e : Kind) (ts us : Tokens) (m n : Meter) → n ≡ m → Counts (named_by ns (pointed t d ss qs) e) (Costs (a_declarator t d f ns) ts m) us n
-pointer-by t d f ns ss qs e ts us m n is = subst (λ z. Counts (named_by ns (pointed t d ss qs) e) (Costs (a_declarator t d f ns) ts m) us z) (sym is) (names ns e (λ a vs. pointed-by t d f ns ss qs a ts vs m))
+pointer-by : (t : Types) (d : ℕ) (f : Bool) (ns : List Name) (ss : Stars) (qs : Quals) (e : Kind) (ts us : Tokens) (m n : Meter) → n ≡ m → Counts (named_by [] (pointed t d ss qs) e) (Costs (a_declarator t d f ns) ts m) us n
+pointer-by t d f ns ss qs e ts us m n is = subst (λ z. Counts (named_by [] (pointed t d ss qs) e) (Costs (a_declarator t d f ns) ts m) us z) (sym is) (names [] e (λ a vs. pointed-by t d f ns ss qs a ts vs m))
 
 declarator-by : (t : Types) (d : ℕ) (f : Bool) (ns : List Name) (ss : Stars) (e : Kind) (ts us : Tokens) (m : Meter) → Counts (declarator_by t d f ns ss e) (Costs (a_declarator t d f ns) ts m) us m
-declarator-by t d f ns ss k.Name ts us m = skips (λ n vs. go_if {b = is_among ns n} (λ yes. go_stop) (λ no. go_look (λ e is. declared-by t d f ns ss n e ts vs m)))
+declarator-by t d f ns ss k.Name ts us m = skips (λ n vs. go_look (λ e is. declared-by t d f ns ss n e ts vs m))
 declarator-by t d f ns ss k.OpenParen ts us m = skips (λ _ vs. wants k.Star (λ ws. go_call (λ qs es n p. go_look (λ e is. pointer-by t d f ns ss qs e ts es m n p))))
 declarator-by t d f ns ss _ ts us m = go_stop
 

@@ -2,7 +2,7 @@
 use Rattle.std.proofs.Common.{◌≡◌, ◌≢◌, ◌<◌, ◌≤◌, false, [], ◌∷◌, length, codes, refl, sym, ap, ◌∙◌, length-append, append-nil, arith}
 use Rattle.c_tree.specs.declared.tree.UnaryOp.{UnaryOp}
 use Rattle.c_tree.specs.declared.tree.StepOp.{StepOp}
-use Rattle.c_tree.specs.Tree.{Name, Expression, comma, assign, choose, binary, cast, unary, before, size_of, size_of_type, index, call, dot, arrow, after, name, integer, character, text, paren}
+use Rattle.c_tree.specs.Tree.{Expression, comma, assign, choose, binary, cast, unary, before, size_of, size_of_type, index, call, dot, arrow, after, name, integer, character, text, paren}
 use Rattle.c_tree.specs.Marks.{Tokens, mark}
 use Rattle.c_tree.specs.Spelling.{spell_expression}
 use Rattle.c_tree.specs.ExpressionShape.{level, ShapeExpression}

@@ -1,6 +1,7 @@
 -- What kinds of tokens say of the tokens, and the kinds of operators.
-use Rattle.std.proofs.Common.{◌≡◌, ◌≢◌, ◌<◌, ◌≤◌, Bool, true, false, List, [], ◌∷◌, length, get_or, Some, cond, refl, sym, ap, subst, ◌∙◌, rules, arith}
+use Rattle.std.proofs.Common.{◌≡◌, ◌≢◌, ◌<◌, ◌≤◌, Bool, true, false, ◌&&◌, ◌||◌, List, [], ◌∷◌, ◌++◌, length, get_or, Some, cond, refl, sym, ap, subst, ◌∙◌, rules, arith}
 use Rattle.std.specs.Str.{bytes_eq}
+use Rattle.std.proofs.lemmas.List.Folds.{list_any-append}
 use Rattle.std.proofs.lemmas.Slice.Eq.{bytes_eq-Decides}
 use denote.Enum.Bare.{same_true as the_same_true, same_false as the_same_false, true_same, false_same as the_false_same}
 use Rattle.base_core.specs.declared.token.Class.{Class}
@@ -215,6 +216,29 @@ kind_sorted types (t ∷ us) = sorted_twice types (kind_of t) t.lexeme
 sorted_none : (x : Kind) (n : Name) → sorted [] x n ≡ x
 sorted_none k.Name n = refl
 sorted_none _ n = refl
+
+-- ---- where the names of two lists are types
+
+neither : (a b : Bool) → (a || b) ≡ false → (a ≡ false) × (b ≡ false)
+neither true b e = absurd (cc)
+neither false b e = (refl, e)
+
+-- a name that is in neither list
+pub among_neither : (ns types : List Name) (n : Name) → is_among (ns ++ types) n ≡ false → (is_among ns n ≡ false) × (is_among types n ≡ false)
+among_neither ns types n e = neither (is_among ns n) (is_among types n) (sym (list_any-append (bytes_eq n) ns types) ∙ e)
+
+pub neither_among : (ns types : List Name) (n : Name) → is_among ns n ≡ false → is_among types n ≡ false → is_among (ns ++ types) n ≡ false
+neither_among ns types n a b = list_any-append (bytes_eq n) ns types ∙ ap (λ v. v || is_among types n) a ∙ b
+
+sorted_beside : (ns types : List Name) (x : Kind) (n : Name) → sorted (ns ++ types) x n ≡ cond (same_kind x k.Name && (is_among ns n || is_among types n)) k.TypeName x
+unfolding same_kind
+sorted_beside ns types k.Name n = ap (λ v. cond v k.TypeName k.Name) (list_any-append (bytes_eq n) ns types)
+sorted_beside ns types _ n = refl
+
+-- the kind there, from the kind where no name is a type
+pub kind_beside : (ns types : List Name) (ts : Tokens) →
+    kind (ns ++ types) ts ≡ cond (same_kind (kind [] ts) k.Name && (is_among ns (head_text ts) || is_among types (head_text ts))) k.TypeName (kind [] ts)
+kind_beside ns types ts = kind_sorted (ns ++ types) ts ∙ sorted_beside ns types (kind [] ts) (head_text ts)
 
 -- where no name is a type, the kind of the next token is its kind anywhere
 pub kind_first : (t : Token) (us : Tokens) → kind [] (t ∷ us) ≡ kind_of t

@@ -1,5 +1,5 @@
 -- Reading by the rules of the grammar, where nothing is counted.
-use Rattle.std.proofs.Common.{◌≡◌, ◌<◌, ℕ, Bool, true, false, arith}
+use Rattle.std.proofs.Common.{◌≡◌, ◌<◌, false, arith}
 use Rattle.c_tree.specs.Marks.{Tokens}
 use Rattle.c_grammar.specs.Body.{Outcome, exec, reads}
 use Rattle.c_grammar.specs.Gauge.{free}

@@ -24,8 +24,8 @@ by_pointed : (t : Types) (d : ℕ) (ss : Stars) (qs : Quals) (n : Name) → Fine
 by_pointed t d ss qs n = fine_call refl (λ xs. fine_expect k.CloseParen tt (fine_expect k.OpenParen tt (fine_call refl (λ ps. fine_done))))
 
 by_declarator : (t : Types) (d : ℕ) (f : Bool) (ns : List Name) (ss : Stars) (e : Kind) → Fine DeclaratorTree false 2 true (declarator_by t d f ns ss e)
-by_declarator t d f ns ss k.Name = fine_take (λ n. fine_if _ fine_stop (fine_look fine_done (by_declared t d f ss n)))
-by_declarator t d f ns ss k.OpenParen = fine_take (λ m. fine_expect k.Star tt (fine_call refl (λ qs. fine_name ns (λ n. by_pointed t d ss qs n))))
+by_declarator t d f ns ss k.Name = fine_take (λ n. fine_look fine_done (by_declared t d f ss n))
+by_declarator t d f ns ss k.OpenParen = fine_take (λ m. fine_expect k.Star tt (fine_call refl (λ qs. fine_name [] (λ n. by_pointed t d ss qs n))))
 by_declarator t d f ns ss _ = fine_stop
 
 by_size : (t : Types) (d : ℕ) (e : Kind) → Fine Sizes true 1 true (size_by t d e)

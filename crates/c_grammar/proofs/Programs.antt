@@ -1,22 +1,20 @@
 -- What is read of the tokens of a text: the program that they spell, or why there is none.
-use Rattle.std.proofs.Common.{◌≡◌, ◌≢◌, ℕ, zero, suc, ◌+◌, ◌-◌, ◌<◌, ◌≤◌, Bool, true, false, List, [], ◌∷◌, ◌++◌, length, take, drop, Some, refl, sym, ap, subst, ◌∙◌, append-nil, arith}
-use Rattle.std.specs.Prelude.{max}
+use Rattle.std.proofs.Common.{◌≡◌, ℕ, suc, ◌≤◌, List, [], ◌∷◌, ◌++◌, length, Some, refl, sym, ap, ◌∙◌, append-nil, arith}
 use Rattle.base_core.specs.declared.token.Token.{Token}
 use Rattle.c_tree.specs.Marks.{Tokens}
 use Rattle.c_tree.specs.Shape.{Shape, first_scope}
 use Rattle.c_tree.specs.Spelling.{spell}
 use Rattle.c_tree.specs.Nodes.{nodes}
 use Rattle.c_tree.specs.Depth.{depth}
-use Rattle.c_tree.specs.Limits.{WithinLimits}
 use Rattle.c_tree.specs.Tree.{ItemTree}
 use Rattle.c_grammar.specs.Body.{Outcome, got, refused, exceeded, reads}
-use Rattle.c_grammar.specs.Gauge.{Meter, free, counted, limited, fits}
+use Rattle.c_grammar.specs.Gauge.{Meter, free, counted, limited}
 use Rattle.c_grammar.specs.Input.{Input}
-use Rattle.c_grammar.specs.Reading.{read, Failure, no_rule, past_limit, failure_of}
+use Rattle.c_grammar.specs.Reading.{read, no_rule, past_limit, failure_of}
 use Rattle.c_grammar.specs.Rules.{Rule, Result, rule, rank, top, all_items}
 use Rattle.c_grammar.proofs.Parse.{bounded}
 use Rattle.c_grammar.proofs.Conditions.{all_go}
-use Rattle.c_grammar.proofs.Sure.{Holds, holds_got}
+use Rattle.c_grammar.proofs.Sure.{holds_got}
 use Rattle.c_grammar.proofs.Read.{Read}
 use Rattle.c_grammar.proofs.Costs.{Costs}
 use Rattle.c_grammar.proofs.Limits.{limited_free, limited_free-refused, limited_counted, free_counted, within_limits, Fits-fits}

@@ -1,17 +1,17 @@
 -- What each rule reads: tokens that a tree of its shape spells.
 use Rattle.std.proofs.Common.{◌⊎◌}
-use Rattle.std.specs.Prelude.{◌≡◌, ◌≢◌, ℕ, ◌+◌, ◌≤◌, List, [], ◌∷◌, ◌++◌, Option, Some, None, Bool, true, false, ⊤, IsTrue, IsFalse, codes}
+use Rattle.std.specs.Prelude.{◌≡◌, ◌≢◌, ℕ, ◌≤◌, List, [], ◌∷◌, ◌++◌, false, ⊤, IsTrue, codes}
 use Rattle.c_tree.specs.declared.tree.Storage.{Storage}
-use Rattle.c_tree.specs.Marks.{Tokens, keyword, name_token, mark}
-use Rattle.c_tree.specs.TypeWords.{TypeWord, of_whole, is_one_type, is_among, type_words, words_of, IsOrdinary, NamesType}
+use Rattle.c_tree.specs.Marks.{Tokens, keyword, mark}
+use Rattle.c_tree.specs.TypeWords.{of_whole, is_one_type, type_words, words_of, IsOrdinary, NamesType}
 use Rattle.c_tree.specs.DeclaredNames.{declarator_name}
 use Rattle.c_tree.specs.ExpressionShape.{level, FitsWord, IsNotVoid, AtMostOne, AtLeastOne, HasMember, HasDeclarator, HasEnumerator, IsNoFunction, ShapeExpression, ShapeArguments, ShapeSizes, ShapeType, ShapeSpecifiers, ShapeSpecifier, ShapeMembers, ShapeDeclarators, ShapeEnumerators, ShapeDeclarator, ShapeParameters, ShapeForm, ShapeBare}
-use Rattle.c_tree.specs.Shape.{Scope, Place, HasInitializer, ShapeInit, ShapeInitializers, FitsInit, ShapeOptionalInit, ShapeNamed, ShapeNames, ShapeDeclaration, IsNoTypedef, ShapeInner, ShapeOptional, ShapeStart, ends_open, ShapeStatement, ShapeStatements, ShapeItem, ShapeItems}
-use Rattle.c_tree.specs.Tree.{Name, Quals, Stars, Expression, comma, assign, choose, binary, cast, unary, before, size_of, size_of_type, index, call, dot, arrow, after, name, integer, character, text, paren, Expressions, no_expressions, expressions, Sizes, no_sizes, open_size, size, TypeTree, typed, Specifiers, no_specifiers, specifiers, Specifier, const_word, volatile_word, void_word, char_word, short_word, int_word, long_word, signed_word, unsigned_word, type_name, struct_tag, struct_of, enum_tag, enum_of, Members, no_members, member, Declarators, no_declarators, declarators, Enumerators, no_enumerators, enumerator, enumerator_with, DeclaratorTree, plain, array, function, pointer, Parameters, no_parameters, parameters, ParameterForm, named_form, bare_form, BareTree, bare_stars, bare_pointer, Initializer, single, listed, Initializers, no_initializers, initializers, NamedTree, DeclarationTree, ForStartTree, start_declaration, start_expression, StatementTree, block, declaration, expression_statement, if_statement, if_else_statement, while_statement, do_statement, for_statement, switch_statement, case_label, default_label, named_label, break_statement, continue_statement, return_statement, goto_statement, Statements, no_statements, statements, ItemTree, function_item, declaration_item}
+use Rattle.c_tree.specs.Shape.{Scope, HasInitializer, ShapeInit, ShapeInitializers, ShapeNamed, ShapeNames, IsNoTypedef, ShapeInner, ShapeOptional, ShapeStart, ends_open, ShapeStatement, ShapeStatements, ShapeItem, ShapeItems}
+use Rattle.c_tree.specs.Tree.{Name, Expression, Parameters, no_parameters, parameters}
 use Rattle.c_grammar.specs.declared.kind.Kind.TheVariants as k
 use Rattle.c_grammar.specs.Kind.{kind, token_of}
 use Rattle.c_grammar.specs.Rules.{Rule, Result, is_function, an_expression, a_whole, a_prefix, a_rest, an_opened, more_texts, all_arguments, more_arguments, a_type, all_specifiers, a_struct, all_members, more_members, all_declarators, more_declarators, an_enum, all_enumerators, more_enumerators, all_stars, all_quals, a_declarator, all_sizes, at_most_one_size, all_parameters, some_parameters, more_parameters, a_parameter, a_bare, an_initializer, all_initializers, more_initializers, a_declaration, a_declared, a_named, more_named, an_optional, a_start, a_statement, all_statements, an_outer, more_outer, a_first, an_item, all_items}
-use Rattle.c_grammar.proofs.Onto.{onto_all_named, onto_arguments, onto_bare, onto_declaration, onto_declarator, onto_declarators, onto_designator, onto_enumerators, onto_expression, onto_for_start, onto_form, onto_init, onto_initial, onto_initializers, onto_item, onto_members, onto_more, onto_more_declarators, onto_more_enumerators, onto_more_initializers, onto_more_named, onto_more_parameters, onto_named, onto_optional, onto_parameters, onto_program, onto_quals, onto_sizes, onto_specifier, onto_specifiers, onto_stars, onto_statement, onto_statements, onto_storage, onto_tag, onto_texts, onto_trailing, onto_type}
+use Rattle.c_grammar.proofs.Onto.{onto_arguments, onto_bare, onto_declaration, onto_declarator, onto_declarators, onto_enumerators, onto_expression, onto_for_start, onto_form, onto_init, onto_initializers, onto_item, onto_members, onto_more, onto_more_declarators, onto_more_enumerators, onto_more_initializers, onto_more_named, onto_more_parameters, onto_named, onto_optional, onto_parameters, onto_program, onto_quals, onto_sizes, onto_specifier, onto_specifiers, onto_stars, onto_statement, onto_statements, onto_storage, onto_texts, onto_trailing, onto_type}
 
 -- an operand of at least this level
 abbrev pub ReadOperand : List Name → ℕ → Tokens → Expression → Tokens → Type 0

@@ -1,5 +1,5 @@
 -- Declarators are read.
-use Rattle.std.proofs.Common.{◌≡◌, ◌≢◌, inl, inr, ℕ, ◌+◌, Bool, [], ◌∷◌, codes, refl}
+use Rattle.std.proofs.Common.{◌≡◌, ◌≢◌, inl, inr, ℕ, ◌+◌, Bool, [], ◌∷◌, ◌++◌, codes, refl}
 use Rattle.std.proofs.lemmas.Bool.{true_from_ne_false}
 use Rattle.c_tree.specs.Tree.{Name, Quals, Stars, Specifiers, Sizes, no_sizes, open_size, size, plain, array, function, pointer, Parameters, ParameterForm}
 use Rattle.c_tree.specs.Marks.{Tokens, mark}
@@ -11,8 +11,8 @@ use Rattle.c_grammar.specs.Kind.{kind}
 use Rattle.c_grammar.specs.Body.{got, done}
 use Rattle.c_grammar.specs.Rules.{Types, declared_by, parameter_name_by, a_declarator}
 use Rattle.c_grammar.proofs.Onto.{onto_sizes}
-use Rattle.c_grammar.proofs.KindLemmas.{kind_at, kind_name}
-use Rattle.c_grammar.proofs.Runs.{ran, run_done, run_look, run_seen, run_at, run_take, run_spend, run_rise, run_call, run_expect, run_then, run_else}
+use Rattle.c_grammar.proofs.KindLemmas.{kind_at, kind_name, neither_among}
+use Rattle.c_grammar.proofs.Runs.{ran, run_done, run_look, run_seen, run_at, run_take, run_spend, run_rise, run_call, run_expect, run_then}
 use Rattle.c_grammar.proofs.ReadsTree.{EndsForm, ReadsSizes, ReadsDeclarator}
 use Rattle.c_grammar.proofs.ReadsWords.{other_kind}
 use Rattle.c_grammar.proofs.ReadsStars.{quals_read, stars_read, stars_end_at, stars_end_name}
@@ -45,7 +45,7 @@ module _ (t : Types) where
   plain_reads ss n new = record {
     all = λ d f ns r may fresh ends. ran (a_declarator t d f ns) _ (got (plain ss n) r tt)
         (run_call refl (stars_read ss _ (stars_end_name n r))
-        (run_look k.Name (kind_name t n r new) (run_take (run_else _ fresh (run_seen (declared_ends t d f ss n (kind [] r) ends.0 ends.1) (run_done refl))))));
+        (run_look k.Name (kind_name (ns ++ t) n r (neither_among ns t n fresh new)) (run_take (run_seen (declared_ends t d f ss n (kind [] r) ends.0 ends.1) (run_done refl)))));
     parameter = λ d ws r object ends.
         run_call refl (stars_read ss _ (stars_end_name n r))
         (run_look k.Name (kind_name t n r new) (run_rise (run_spend (run_take (run_seen (parameter_ends t d ws ss n (kind [] r) (form_no_bracket r ends)) (run_done refl))))));
@@ -56,7 +56,7 @@ module _ (t : Types) where
   array_reads ss n xs new some hxs = record {
     all = λ d f ns r may fresh ends. ran (a_declarator t d f ns) _ (got (array ss n xs) r tt)
         (run_call refl (stars_read ss _ (stars_end_name n _))
-        (run_look k.Name (kind_name t n _ new) (run_take (run_else _ fresh (run_look k.OpenBracket (sizes_head xs r some) (run_call refl (hxs.all d r ends.0) (run_done refl)))))));
+        (run_look k.Name (kind_name (ns ++ t) n _ (neither_among ns t n fresh new)) (run_take (run_look k.OpenBracket (sizes_head xs r some) (run_call refl (hxs.all d r ends.0) (run_done refl))))));
     parameter = λ d ws r object ends.
         run_call refl (stars_read ss _ (stars_end_name n _))
         (run_look k.Name (kind_name t n _ new) (run_rise (run_spend (run_take
@@ -68,8 +68,8 @@ module _ (t : Types) where
   function_reads ss n ps v new hps = record {
     all = λ d f ns r may fresh ends. ran (a_declarator t d f ns) _ (got (function ss n ps v) r tt)
         (run_call refl (stars_read ss _ (stars_end_name n _))
-        (run_look k.Name (kind_name t n _ new) (run_take (run_else _ fresh
-        (run_at k.OpenParen tt (run_then _ (true_from_ne_false f may) (run_take (run_call refl (hps d r) (run_done refl)))))))));
+        (run_look k.Name (kind_name (ns ++ t) n _ (neither_among ns t n fresh new)) (run_take
+        (run_at k.OpenParen tt (run_then _ (true_from_ne_false f may) (run_take (run_call refl (hps d r) (run_done refl))))))));
     parameter = λ d ws r object ends. absurd object;
   }
 
@@ -80,9 +80,9 @@ module _ (t : Types) where
         (run_call refl (stars_read ss _ (stars_end_at k.OpenParen _ tt refl))
         (run_at k.OpenParen tt (run_take (run_expect k.Star tt
         (run_call refl (quals_read qs _ (stars_end_name n _))
-        (run_look k.Name (kind_name t n _ new) (run_take (run_else _ fresh
+        (run_look k.Name (kind_name (ns ++ t) n _ (neither_among ns t n fresh new)) (run_take
         (run_call refl (hxs.one d _ few (close_no_bracket _))
-        (run_expect k.CloseParen tt (run_expect k.OpenParen tt (run_call refl (hps d r) (run_done refl)))))))))))));
+        (run_expect k.CloseParen tt (run_expect k.OpenParen tt (run_call refl (hps d r) (run_done refl))))))))))));
     parameter = λ d ws r object ends.
         run_call refl (stars_read ss _ (stars_end_at k.OpenParen _ tt refl))
         (run_at k.OpenParen tt (run_take (run_expect k.Star tt

@@ -14,7 +14,7 @@ use Rattle.c_grammar.specs.Kind.{kind, same_kind, unary_kind, step_kind}
 use Rattle.c_grammar.specs.Body.{Outcome, got, refused, exceeded, done, stop, take, and_then, exec}
 use Rattle.c_grammar.specs.Body as body
 use Rattle.c_grammar.specs.Gauge.{free}
-use Rattle.c_grammar.specs.Rules.{Types, Rule, Result, Reads, rank, expect, First, a_unary, a_step, prefix_by, first_of_operand, no_operand, texts_by, sizeof_by, begins_type, an_expression, a_whole, a_prefix, a_rest, an_opened, more_texts}
+use Rattle.c_grammar.specs.Rules.{Types, Rule, Result, Reads, rank, expect, First, a_unary, a_step, prefix_by, first_of_operand, texts_by, sizeof_by, begins_type, an_expression, a_whole, a_prefix, a_rest, an_opened, more_texts}
 use Rattle.c_grammar.proofs.Onto.{onto_expression, onto_texts, onto_type}
 use Rattle.c_grammar.proofs.Parse.{parse, opening}
 use Rattle.c_grammar.proofs.KindLemmas.{kind_at, kind_name, head_is}

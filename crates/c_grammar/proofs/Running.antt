@@ -1,16 +1,16 @@
 -- What a rule reads, step by step, as code reads it.
-use Rattle.std.proofs.Common.{◌≡◌, ◌≢◌, ℕ, ◌<◌, nat_lt, Bool, true, false, ◌||◌, cond, List, [], ◌∷◌, length, Option, Some, None, refl, sym, ap, ◌∙◌, subst, arith}
+use Rattle.std.proofs.Common.{◌≡◌, ◌≢◌, ℕ, ◌<◌, nat_lt, Bool, true, false, ◌||◌, cond, List, [], ◌∷◌, length, Some, None, refl, sym, ap, ◌∙◌, subst, arith}
 use Rattle.std.proofs.lemmas.Bool.Decides.{nat_tests}
 use Rattle.c_tree.specs.Tree.{Name}
 use Rattle.c_tree.specs.Marks.{Tokens}
 use Rattle.c_grammar.specs.declared.kind.Kind.{Kind}
-use Rattle.c_grammar.specs.Kind.{kind, same_kind, token_of, head_text, tail_of, IsReal}
-use Rattle.c_grammar.specs.Body.{Body, done, stop, look, take, spend, rise, call, strict, scope, Outcome, got, refused, exceeded, and_then, and_paid, exec, reads}
+use Rattle.c_grammar.specs.Kind.{kind, token_of, head_text, tail_of, IsReal}
+use Rattle.c_grammar.specs.Body.{done, stop, look, take, spend, rise, call, strict, scope, Outcome, got, refused, exceeded, and_then, and_paid, exec}
 use Rattle.c_grammar.specs.Gauge.{Meter, limited, within, added, raised, entered, left}
 use Rattle.c_grammar.specs.Input.{Input, next}
 use Rattle.c_grammar.specs.Reading.{read, Failure, failure_of}
 use Rattle.c_grammar.specs.Rules.{Rule, Result, Reads, rule, rank, top, expect}
-use Rattle.c_grammar.proofs.KindLemmas.{same_refl, same_true, false_same, head_is}
+use Rattle.c_grammar.proofs.KindLemmas.{same_refl, false_same, head_is}
 use Rattle.c_grammar.proofs.Parse.{bounded}
 use Rattle.c_grammar.proofs.Opening.{opened}
 

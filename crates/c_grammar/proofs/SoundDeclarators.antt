@@ -1,5 +1,5 @@
 -- Declarators, their stars and sizes: what is read is spelled by a tree of its shape.
-use Rattle.std.proofs.Common.{◌≡◌, ℕ, Bool, false, List, [], ◌∷◌, codes, refl, arith}
+use Rattle.std.proofs.Common.{◌≡◌, ℕ, Bool, false, List, [], ◌∷◌, ◌++◌, codes, refl, arith}
 use Rattle.c_tree.specs.Marks.{Tokens, name_token, mark}
 use Rattle.c_tree.specs.TypeWords.{is_among}
 use Rattle.c_tree.specs.Tree.{Name, Quals, Stars}
@@ -8,6 +8,7 @@ use Rattle.c_grammar.specs.declared.kind.Kind.TheVariants as k
 use Rattle.c_grammar.specs.Kind.{kind}
 use Rattle.c_grammar.specs.Rules.{Types, all_declarators, more_declarators, all_stars, all_quals, a_declarator, all_sizes, at_most_one_size, named_by, more_declarators_by, stars_by, quals_by, declared_by, pointed, declarator_by, size_by, sizes_by, one_size_by, at_most_one_by, rule}
 use Rattle.c_grammar.proofs.Conditions.{go_done, go_stop, go_look, go_spend, go_call, go_if, go_take, go_name, go_expect}
+use Rattle.c_grammar.proofs.KindLemmas.{among_neither}
 use Rattle.c_grammar.proofs.Onto.{onto_stars, onto_quals}
 use Rattle.c_grammar.proofs.Keeps.{Keeps, KeepsOn}
 
@@ -48,18 +49,20 @@ declared-by t d f ns ss n ts vs k.OpenParen is at ordinary other = go_if {b = f}
     (λ off. go_done (at, ordinary, (λ _. tt), other))
 declared-by t d f ns ss n ts vs _ is at ordinary other = go_done (at, ordinary, (λ _. tt), other)
 
-pointed-by : (t : Types) (d : ℕ) (f : Bool) (ns : List Name) (ss : Stars) (qs : Quals) (ts vs : Tokens) (e : Kind) → kind t vs ≡ e →
-    ts ≡ onto_stars ss (mark (codes "(") ∷ mark (codes "*") ∷ onto_quals qs vs) → KeepsOn (a_declarator t d f ns) (named_by ns (pointed t d ss qs) e) ts vs
-pointed-by t d f ns ss qs ts vs k.Name is at = go_name t is (λ n ws named ordinary. go_if {b = is_among ns n} (λ taken. go_stop) (λ other.
+pointed-by : (t : Types) (d : ℕ) (f : Bool) (ns : List Name) (ss : Stars) (qs : Quals) (ts vs : Tokens) (e : Kind) → kind (ns ++ t) vs ≡ e →
+    ts ≡ onto_stars ss (mark (codes "(") ∷ mark (codes "*") ∷ onto_quals qs vs) → KeepsOn (a_declarator t d f ns) (named_by [] (pointed t d ss qs) e) ts vs
+pointed-by t d f ns ss qs ts vs k.Name is at = go_name (ns ++ t) is (λ n ws named new.
+    let fresh = among_neither ns t n new in
     go_call (λ xs os _ p. go_expect k.CloseParen tt (λ m rs close. go_expect k.OpenParen tt (λ i bs opening. go_call (λ ps cs _ q.
-    go_done (rw (at, named, p.0, close, opening, q.0) refl, (ordinary, p.2, p.1, q.1, q.2, q.3), (λ _. tt), other)))))))
+    go_done (rw (at, named, p.0, close, opening, q.0) refl, (fresh.1, p.2, p.1, q.1, q.2, q.3), (λ _. tt), fresh.0))))))
 pointed-by t d f ns ss qs ts vs _ is at = go_stop
 
-declarator-by : (t : Types) (d : ℕ) (f : Bool) (ns : List Name) (ss : Stars) (ts us : Tokens) (e : Kind) → kind t us ≡ e → ts ≡ onto_stars ss us →
+declarator-by : (t : Types) (d : ℕ) (f : Bool) (ns : List Name) (ss : Stars) (ts us : Tokens) (e : Kind) → kind (ns ++ t) us ≡ e → ts ≡ onto_stars ss us →
     KeepsOn (a_declarator t d f ns) (declarator_by t d f ns ss e) ts us
-declarator-by t d f ns ss ts us k.Name is at = go_name t is (λ n vs named ordinary. go_if {b = is_among ns n} (λ taken. go_stop) (λ other.
-    go_look (λ e next. declared-by t d f ns ss n ts vs e next (rw (at, named) refl) ordinary other)))
-declarator-by t d f ns ss ts us k.OpenParen is at = go_take t k.OpenParen is tt (λ n vs opening. go_expect k.Star tt (λ m ws star. go_call (λ qs os _ p.
+declarator-by t d f ns ss ts us k.Name is at = go_name (ns ++ t) is (λ n vs named new.
+    let fresh = among_neither ns t n new in
+    go_look (λ e next. declared-by t d f ns ss n ts vs e next (rw (at, named) refl) fresh.1 fresh.0))
+declarator-by t d f ns ss ts us k.OpenParen is at = go_take (ns ++ t) k.OpenParen is tt (λ n vs opening. go_expect k.Star tt (λ m ws star. go_call (λ qs os _ p.
     go_look (λ e next. pointed-by t d f ns ss qs ts os e next (rw (at, opening, star, p) refl)))))
 declarator-by t d f ns ss ts us _ is at = go_stop
 

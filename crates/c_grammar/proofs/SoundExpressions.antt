@@ -4,8 +4,6 @@ use Rattle.std.proofs.lemmas.Bool.Decides.{nat_tests}
 use Rattle.c_tree.specs.declared.tree.UnaryOp.{UnaryOp}
 use Rattle.c_tree.specs.declared.tree.UnaryOp.TheVariants as u
 use Rattle.c_tree.specs.Marks.{Tokens, keyword, mark}
-use Rattle.c_tree.specs.ExpressionShape.{level}
-use Rattle.c_tree.specs.Tree.{Name}
 use Rattle.c_grammar.specs.declared.kind.Kind.{Kind}
 use Rattle.c_grammar.specs.declared.kind.Kind.TheVariants as k
 use Rattle.c_grammar.specs.Kind.{kind, IsReal, unary_kind, step_kind}

@@ -4,7 +4,7 @@
 -- Each rule is given the names that are types. d counts the nodes that lie above what is read, so that a node read there has
 -- depth d + 1. owed counts the nodes that the first token makes necessary and that were not counted before: those that stand
 -- in its place whatever follows are counted with the token that asks for them.
-use Rattle.std.specs.Prelude.{ℕ, suc, ◌+◌, Bool, true, false, not, ◌&&◌, ◌||◌, nat_le, List, [], ◌∷◌, ◌++◌, Option, Some, None, if◌then◌else◌}
+use Rattle.std.specs.Prelude.{ℕ, suc, ◌+◌, Bool, true, false, ◌&&◌, ◌||◌, nat_le, List, [], ◌∷◌, ◌++◌, Option, Some, None, if◌then◌else◌}
 use Rattle.c_tree.specs.declared.tree.AssignOp.{AssignOp}
 use Rattle.c_tree.specs.declared.tree.AssignOp.TheVariants as a
 use Rattle.c_tree.specs.declared.tree.BinaryOp.{BinaryOp}
@@ -20,7 +20,7 @@ use Rattle.c_tree.specs.TypeWords.{TypeWord, of_void, of_char, of_short, of_int,
 use Rattle.c_tree.specs.DeclaredNames.{declarator_name, declared_inside}
 use Rattle.c_tree.specs.ExpressionShape.{op_level, level}
 use Rattle.c_tree.specs.Shape.{Scope, Place, of_loop, of_branch, of_block, of_switch, outside, behind_specifiers, behind_named, behind_item}
-use Rattle.c_tree.specs.Tree.{Name, Quals, Stars, Expression, comma, assign, choose, binary, cast, unary, before, size_of, size_of_type, index, call, dot, arrow, after, name, integer, character, text, paren, Expressions, no_expressions, expressions, Sizes, no_sizes, open_size, size, TypeTree, typed, Specifiers, no_specifiers, specifiers, Specifier, const_word, volatile_word, void_word, char_word, short_word, int_word, long_word, signed_word, unsigned_word, type_name, struct_tag, struct_of, enum_tag, enum_of, Members, no_members, member, Declarators, no_declarators, declarators, Enumerators, no_enumerators, enumerator, enumerator_with, DeclaratorTree, plain, array, function, pointer, Parameters, no_parameters, parameters, ParameterForm, named_form, bare_form, BareTree, bare_stars, bare_pointer, Initializer, single, listed, Initializers, no_initializers, initializers, NamedTree, DeclarationTree, ForStartTree, start_declaration, start_expression, StatementTree, block, declaration, expression_statement, if_statement, if_else_statement, while_statement, do_statement, for_statement, switch_statement, case_label, default_label, named_label, break_statement, continue_statement, return_statement, goto_statement, Statements, no_statements, statements, FunctionTree, ItemTree, function_item, declaration_item}
+use Rattle.c_tree.specs.Tree.{Name, Quals, Stars, Expression, comma, assign, choose, binary, cast, unary, before, size_of, size_of_type, index, call, dot, arrow, after, name, integer, character, text, paren, Expressions, no_expressions, expressions, Sizes, no_sizes, open_size, size, TypeTree, typed, Specifiers, no_specifiers, specifiers, Specifier, const_word, volatile_word, void_word, char_word, short_word, int_word, long_word, signed_word, unsigned_word, type_name, struct_tag, struct_of, enum_tag, enum_of, Members, no_members, member, Declarators, no_declarators, declarators, Enumerators, no_enumerators, enumerator, enumerator_with, DeclaratorTree, plain, array, function, pointer, Parameters, no_parameters, parameters, ParameterForm, named_form, bare_form, BareTree, bare_stars, bare_pointer, Initializer, single, listed, Initializers, no_initializers, initializers, NamedTree, DeclarationTree, ForStartTree, start_declaration, start_expression, StatementTree, block, declaration, expression_statement, if_statement, if_else_statement, while_statement, do_statement, for_statement, switch_statement, case_label, default_label, named_label, break_statement, continue_statement, return_statement, goto_statement, Statements, no_statements, statements, ItemTree, function_item, declaration_item}
 use Rattle.c_grammar.specs.declared.kind.Kind.{Kind}
 use Rattle.c_grammar.specs.declared.kind.Kind.TheVariants as k
 use Rattle.c_grammar.specs.Kind.{same_kind}
@@ -601,12 +601,12 @@ pointed t d ss qs n = do
   done (pointer ss qs n xs ps.0 ps.1)
 
 abbrev pub declarator_by : Types → ℕ → Bool → List Name → Stars → Kind → Reads DeclaratorTree
-declarator_by t d f ns ss k.Name = take (λ n. if is_among ns n then stop else look [] (declared_by t d f ss n))
+declarator_by t d f ns ss k.Name = take (λ n. look [] (declared_by t d f ss n))
 declarator_by t d f ns ss k.OpenParen = do
   skip
   expect k.Star
   qs ← all_quals
-  look t (named_by ns (pointed t d ss qs))
+  look (ns ++ t) (named_by [] (pointed t d ss qs))
 declarator_by t d f ns ss _ = stop
 
 abbrev pub size_by : Types → ℕ → Kind → Reads Sizes
@@ -1043,7 +1043,7 @@ rule all_stars = look [] stars_by
 rule all_quals = look [] quals_by
 rule (a_declarator t d f ns) = do
   ss ← all_stars
-  look t (declarator_by t d f ns ss)
+  look (ns ++ t) (declarator_by t d f ns ss)
 rule (all_sizes t d) = look [] (sizes_by t d)
 rule (at_most_one_size t d) = look [] (at_most_one_by t d)
 rule (all_parameters t d) = look t (parameters_by t d)

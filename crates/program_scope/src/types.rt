@@ -5,7 +5,7 @@ ghost use Rattle.c_tree.specs.TypeWords.{is_among};
 
 use base_core::Lexeme;
 use std::alloc::{AllocError, Global};
-use std::collections::VecDeque;
+use std::collections::{HashSet, VecDeque};
 use std::marker::Model;
 
 /// A set of names. A contract sees the list of them.
@@ -13,15 +13,20 @@ use std::marker::Model;
 pub struct Types {
     alloc: Global,
     names: VecDeque<Lexeme>,
+    /// The same names, each once, so that a look-up is fast.
+    known: HashSet<Vec<u8>>,
 }
 
 impl Model for Types {
     ghost use Rattle.std.specs.Prelude.{List};
     ghost use Rattle.c_tree.specs.Tree.{Name};
+    ghost use Rattle.program_scope.specs.Known.{HoldSame};
 
     ghost Value = { List Name };
 
     ghost view = { λ t. t.names.items };
+
+    ghost invariant = { λ t. HoldSame t.known.keys t.names.items };
 }
 
 impl Types {
@@ -32,6 +37,7 @@ impl Types {
         Types {
             alloc,
             names: VecDeque::new(alloc),
+            known: HashSet::new(alloc),
         }
     }
 
@@ -39,7 +45,7 @@ impl Types {
     pub fn contains(&self, name: &[u8]) -> bool
         ensures { result ≡ is_among self.now name.now }
     {
-        self.names.iter().any(|known| name == known.as_bytes())
+        self.known.contains(name)
     }
 
     /// Adds a name, behind the others. Err where there is not enough memory.
@@ -49,7 +55,9 @@ impl Types {
         let Ok(kept) = Lexeme::new(self.alloc, name) else {
             return Err(AllocError);
         };
-        self.names.push_back(kept)?;
+        self.names.reserve(1)?;
+        self.known.insert(Vec::from_slice(self.alloc, name)?)?;
+        self.names.push_back_reserved(kept);
         Ok(())
     }
 
@@ -60,7 +68,9 @@ impl Types {
         let Ok(kept) = Lexeme::new(self.alloc, name) else {
             return Err(AllocError);
         };
-        self.names.push_front(kept)?;
+        self.names.reserve(1)?;
+        self.known.insert(Vec::from_slice(self.alloc, name)?)?;
+        self.names.push_front_reserved(kept);
         Ok(())
     }
 }

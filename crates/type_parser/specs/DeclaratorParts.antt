@@ -1,5 +1,5 @@
 -- Parts of the rules of declarators that are functions of their own.
-use Rattle.std.specs.Prelude.{ℕ, List, Option, Some, None}
+use Rattle.std.specs.Prelude.{ℕ, List, [], ◌++◌, Option, Some, None}
 use Rattle.c_tree.specs.Tree.{Name, Quals, Stars, Expression, Sizes, open_size, size, DeclaratorTree, BareTree, bare_pointer}
 use Rattle.c_grammar.specs.declared.kind.Kind.{Kind}
 use Rattle.c_grammar.specs.declared.kind.Kind.TheVariants as k
@@ -27,7 +27,7 @@ bracketed t d = skip (look t (bracketed_by t d))
 
 -- behind the bracket of a pointer to a function, whose name is none of these
 abbrev pub pointer_from : Types → ℕ → List Name → Stars → Reads DeclaratorTree
-pointer_from t d ns ss = expect k.Star (body.call all_quals (λ qs. look t (named_by ns (pointed t d ss qs))))
+pointer_from t d ns ss = expect k.Star (body.call all_quals (λ qs. look (ns ++ t) (named_by [] (pointed t d ss qs))))
 
 -- the same without a name
 abbrev pub bare_pointer_from : Types → ℕ → Stars → Reads BareTree

@@ -1,8 +1,9 @@
 //! Declarators.
 
-ghost use Rattle.std.specs.Prelude.{◌≡◌, ◌≤◌, [], map, option_map};
+ghost use Rattle.std.specs.Prelude.{◌≡◌, ◌≤◌, [], ◌++◌, map, option_map};
 ghost use Rattle.c_tree.specs.View.{view_expression, view_declarator, view_bare, sizes_of};
 ghost use Rattle.c_grammar.specs.Body.{look};
+ghost use Rattle.c_grammar.specs.Kind as spec;
 ghost use Rattle.c_grammar.specs.Performing.{perform};
 ghost use Rattle.c_grammar.specs.Reading.{read};
 ghost use Rattle.c_grammar.specs.Rules.{all_sizes, at_most_one_size, a_declarator, a_bare, declared_by, named_by, pointed};
@@ -20,6 +21,21 @@ use expression_parser::steps::{expect, kind, refused, word};
 use program_scope::Types;
 use sqlite_items::Items;
 use std::alloc::Global;
+
+/// The kind of the next token, where the names that are taken are types too.
+#[tactic(auto, using(c_grammar::proofs::KindLemmas::kind_beside))]
+fn kind_beside(types: &Types, taken: &Types, cursor: &Cursor<'_>) -> Kind
+    ensures { result ≡ spec.kind (taken.now ++ types.now) cursor.now.rest }
+{
+    let kind = cursor.kind();
+    if same_kind(kind, Kind::Name)
+        && (taken.contains(cursor.lexeme()) || types.contains(cursor.lexeme()))
+    {
+        Kind::TypeName
+    } else {
+        kind
+    }
+}
 
 /// A size in its brackets, or the brackets alone.
 fn bracketed<F: Fn(Global, &Types, &mut Cursor<'_>, usize, u32, Nested) -> Result<Found, Refusal>>(
@@ -146,16 +162,12 @@ fn named<F: Fn(Global, &Types, &mut Cursor<'_>, usize, u32, Nested) -> Result<Fo
 ) -> Result<Declarator, Refusal>
     requires nests { Nests grammar.now.budget (F.pre grammar.now.read) (F.post grammar.now.read) }
     requires small { d ≤ 1001 }
-    ensures { Gives view_declarator (perform (look grammar.now.types.now (named_by taken.now (pointed grammar.now.types.now d stars quals))) cursor.old) result cursor.new }
+    ensures { Gives view_declarator (perform (look (taken.now ++ grammar.now.types.now) (named_by [] (pointed grammar.now.types.now d stars quals))) cursor.old) result cursor.new }
 {
-    match kind(grammar.types, cursor) {
+    match kind_beside(grammar.types, taken, cursor) {
         Kind::Name => {
             let name = word(grammar.alloc, cursor)?;
-            if taken.contains(name.as_bytes()) {
-                Err(refused(cursor))
-            } else {
-                pointed(grammar, cursor, d, stars, quals, name)
-            }
+            pointed(grammar, cursor, d, stars, quals, name)
         }
         _ => Err(refused(cursor)),
     }
@@ -194,14 +206,10 @@ pub fn declarator<
     ensures { Gives view_declarator (read (a_declarator grammar.now.types.now d may_be_function taken.now) cursor.old) result cursor.new }
 {
     let stars = stars(grammar.alloc, cursor)?;
-    match kind(grammar.types, cursor) {
+    match kind_beside(grammar.types, taken, cursor) {
         Kind::Name => {
             let name = word(grammar.alloc, cursor)?;
-            if taken.contains(name.as_bytes()) {
-                Err(refused(cursor))
-            } else {
-                declared(grammar, cursor, d, may_be_function, stars, name)
-            }
+            declared(grammar, cursor, d, may_be_function, stars, name)
         }
         Kind::OpenParen => {
             cursor.take();

@@ -1,0 +1,10 @@
+pub mod Staying
+pub mod StayingExpressions
+pub mod StayingTypes
+pub mod StayingStatements
+pub mod AllStay
+pub mod Leaving
+pub mod Nesting
+pub mod Meaning
+pub mod Earlier
+pub mod Placing

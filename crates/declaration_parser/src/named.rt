@@ -1,0 +1,121 @@
+//! Declared names.
+
+ghost use Rattle.std.specs.Prelude.{◌≤◌, ◌∷◌, [], true, map};
+ghost use Rattle.c_tree.specs.View.{view_declarator};
+ghost use Rattle.c_tree.specs.StatementView.{view_named};
+ghost use Rattle.c_grammar.specs.declared.kind.Kind.TheVariants as k;
+ghost use Rattle.c_grammar.specs.Body.{look};
+ghost use Rattle.c_grammar.specs.Performing.{perform};
+ghost use Rattle.c_grammar.specs.Reading.{read};
+ghost use Rattle.c_grammar.specs.Rules.{a_named, more_named, named_init_by};
+ghost use Rattle.expression_parser.specs.Gives.{Gives};
+ghost use Rattle.expression_parser.specs.Lists.{mapped};
+ghost use Rattle.declaration_parser.specs.DeclarationParts.{another_name};
+
+use crate::forms::has_initializer;
+use c_grammar::{Cursor, Kind, same_kind};
+use c_tree::{Declarator, Named};
+use expression_parser::refusal::Refusal;
+use expression_parser::steps::{expect, refused, spend};
+use initializer_parser::initializer;
+use program_scope::Types;
+use sqlite_items::Items;
+use std::alloc::Global;
+use type_parser::nest::declarator;
+
+/// A declared name at the sign before its initialiser.
+fn initialized(
+    alloc: Global,
+    types: &Types,
+    cursor: &mut Cursor<'_>,
+    d: u32,
+    declarator: Declarator,
+) -> Result<Named, Refusal>
+    requires { d ≤ 1001 }
+    ensures { Gives view_named (perform (named_init_by types.now d true (view_declarator declarator) k.Assign) cursor.old) result cursor.new }
+{
+    spend(cursor, 1, d + 1)?;
+    cursor.take();
+    let init = Some(initializer(alloc, types, cursor, d, 0)?);
+    Ok(Named { declarator, init })
+}
+
+/// A declared name behind its declarator, whose name has depth `d`: its initialiser, which it may have or not, or none.
+pub fn named_init(
+    alloc: Global,
+    types: &Types,
+    cursor: &mut Cursor<'_>,
+    d: u32,
+    may_begin: bool,
+    declarator: Declarator,
+) -> Result<Named, Refusal>
+    requires { d ≤ 1001 }
+    ensures { Gives view_named (perform (look [] (named_init_by types.now d may_begin (view_declarator declarator))) cursor.old) result cursor.new }
+{
+    match cursor.kind() {
+        Kind::Assign => {
+            if may_begin {
+                initialized(alloc, types, cursor, d, declarator)
+            } else {
+                Err(refused(cursor))
+            }
+        }
+        _ => Ok(Named {
+            declarator,
+            init: None,
+        }),
+    }
+}
+
+/// A declared name.
+#[tactic(auto, using(expression_parser::proofs::Opens::named_performs))]
+pub fn declared_name(
+    alloc: Global,
+    types: &Types,
+    cursor: &mut Cursor<'_>,
+    d: u32,
+) -> Result<Named, Refusal>
+    requires { d ≤ 1000 }
+    ensures { Gives view_named (read (a_named types.now d) cursor.old) result cursor.new }
+{
+    let none = Types::new(alloc);
+    let declarator = declarator(alloc, types, cursor, d + 1, true, &none)?;
+    let may_begin = has_initializer(&declarator);
+    named_init(alloc, types, cursor, d + 1, may_begin, declarator)
+}
+
+/// One more declared name, behind a comma.
+fn another_name(
+    alloc: Global,
+    types: &Types,
+    cursor: &mut Cursor<'_>,
+    d: u32,
+) -> Result<Named, Refusal>
+    requires { d ≤ 1001 }
+    ensures { Gives view_named (perform (another_name types.now d) cursor.old) result cursor.new }
+{
+    spend(cursor, 1, d + 1)?;
+    cursor.take();
+    let found = declared_name(alloc, types, cursor, d)?;
+    Ok(found)
+}
+
+/// The declared names behind the first, with the semicolon.
+pub fn more_names(
+    alloc: Global,
+    types: &Types,
+    cursor: &mut Cursor<'_>,
+    d: u32,
+    first: Named,
+) -> Result<Items<Named>, Refusal>
+    requires { d ≤ 1001 }
+    ensures { Gives (map view_named) (mapped (◌∷◌ (view_named first)) (read (more_named types.now d) cursor.old)) result cursor.new }
+{
+    let mut found = Items::new(alloc);
+    found.push(first)?;
+    while same_kind(cursor.kind(), Kind::Comma) {
+        found.push(another_name(alloc, types, cursor, d)?)?;
+    }
+    expect(cursor, Kind::Semicolon)?;
+    Ok(found)
+}

@@ -1,0 +1,9 @@
+pub mod Saving
+pub mod Dues
+pub mod SafeExpressions
+pub mod SafeTypes
+pub mod SafeDeclarators
+pub mod SafeDeclarations
+pub mod SafeStatements
+pub mod SafeItems
+pub mod Late

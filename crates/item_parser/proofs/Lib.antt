@@ -1,0 +1,3 @@
+pub mod ItemCases
+pub mod ItemLoop
+pub mod OuterNames

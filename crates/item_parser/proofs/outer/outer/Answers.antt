@@ -1,0 +1,11 @@
+use Rattle.std.proofs.Common.{sym, subst}
+use Rattle.c_tree.specs.View.{view_declarator}
+use Rattle.c_tree.specs.StatementView.{view_named}
+use Rattle.expression_parser.specs.Gives.{Gives}
+use Rattle.item_parser.proofs.ItemCases.{outer_on}
+use Rattle.item_parser.proofs.outer.outer.Goals as goal
+
+pub returns : goal.returns
+returns c =
+    let e = outer_on c.args.storage c.args.scope.now c.types.result.now c.types-2.result.now c.taken-taken.result.now (view_declarator c.in_ok-found.found) c.args.cursor.now c.declarator.new.cursor c.types.ensures c.types-2.ensures c.taken-taken.ensures c.in_ok-found.ensures in
+    subst (λ o. Gives view_named o c.behind_declarator.result c.behind_declarator.new.cursor) (sym e) c.behind_declarator.ensures

@@ -1,0 +1,93 @@
+//! All items of a program.
+
+ghost use Rattle.std.specs.Prelude.{◌≡◌, ◌<◌, map, length, IfOk};
+ghost use Rattle.c_tree.specs.Shape.{first_scope, behind_item};
+ghost use Rattle.c_tree.specs.StatementView.{view_item};
+ghost use Rattle.c_grammar.specs.Performing.{perform};
+ghost use Rattle.c_grammar.specs.Reading.{read};
+ghost use Rattle.c_grammar.specs.Rules.{all_items, an_item, item_specifiers};
+ghost use Rattle.expression_parser.specs.Gives.{Gives};
+ghost use Rattle.item_parser.specs.ItemParts.{one_item, stored};
+
+use crate::first::{behind_specifiers, kept};
+use c_grammar::{Cursor, Kind, same_kind};
+use c_tree::{Item, Storage};
+use expression_parser::infix::begins_type;
+use expression_parser::refusal::Refusal;
+use expression_parser::steps::{kind, refused, spend};
+use program_scope::Scope;
+use sqlite_items::Items;
+use std::alloc::Global;
+use type_parser::nest::specifiers;
+
+/// An item, from its specifiers on.
+fn specified(
+    alloc: Global,
+    scope: &mut Scope,
+    cursor: &mut Cursor<'_>,
+    storage: Storage,
+) -> Result<Item, Refusal>
+    ensures reads { Gives view_item (perform (item_specifiers storage scope.old) cursor.old) result cursor.new }
+    ensures behind { IfOk result (λ x. scope.new ≡ behind_item (view_item x) scope.old) }
+{
+    let specs = specifiers(alloc, scope.types(), cursor, 2)?;
+    behind_specifiers(alloc, scope, cursor, storage, specs)
+}
+
+/// An item, at the word of its storage.
+fn stored(
+    alloc: Global,
+    scope: &mut Scope,
+    cursor: &mut Cursor<'_>,
+    storage: Storage,
+) -> Result<Item, Refusal>
+    ensures reads { Gives view_item (perform (stored storage scope.old) cursor.old) result cursor.new }
+    ensures behind { IfOk result (λ x. scope.new ≡ behind_item (view_item x) scope.old) }
+{
+    spend(cursor, 1, 2)?;
+    cursor.take();
+    specified(alloc, scope, cursor, storage)
+}
+
+/// An item: a function, or a declaration. The scope is then the one behind it.
+#[tactic(auto, using(expression_parser::proofs::Opens::item_performs))]
+fn item(alloc: Global, scope: &mut Scope, cursor: &mut Cursor<'_>) -> Result<Item, Refusal>
+    ensures reads { Gives view_item (read (an_item scope.old) cursor.old) result cursor.new }
+    ensures behind { IfOk result (λ x. scope.new ≡ behind_item (view_item x) scope.old) }
+{
+    match kind(scope.types(), cursor) {
+        Kind::Static => stored(alloc, scope, cursor, Storage::Static),
+        Kind::Extern => stored(alloc, scope, cursor, Storage::Extern),
+        Kind::Typedef => stored(alloc, scope, cursor, Storage::Typedef),
+        other => {
+            if !begins_type(other) {
+                return Err(refused(cursor));
+            }
+            spend(cursor, 1, 2)?;
+            specified(alloc, scope, cursor, Storage::Nothing)
+        }
+    }
+}
+
+/// An item, which takes a token at least: the refusal where it takes none never comes.
+fn one_item(alloc: Global, scope: &mut Scope, cursor: &mut Cursor<'_>) -> Result<Item, Refusal>
+    ensures reads { Gives view_item (perform (one_item scope.old) cursor.old) result cursor.new }
+    ensures behind { IfOk result (λ x. scope.new ≡ behind_item (view_item x) scope.old) }
+    ensures shorter { IfOk result (λ _. length cursor.new.rest < length cursor.old.rest) }
+{
+    let before = cursor.left();
+    let found = item(alloc, scope, cursor)?;
+    kept(found, cursor.left() < before, refused(cursor))
+}
+
+/// The items of a program, up to the end of the text.
+pub fn items(alloc: Global, cursor: &mut Cursor<'_>) -> Result<Items<Item>, Refusal>
+    ensures { Gives (λ xs. map view_item xs) (read (all_items first_scope) cursor.old) result cursor.new }
+{
+    let mut scope = Scope::first(alloc)?;
+    let mut found = Items::new(alloc);
+    while !same_kind(cursor.kind(), Kind::Nothing) {
+        found.push(one_item(alloc, &mut scope, cursor)?)?;
+    }
+    Ok(found)
+}

@@ -1,0 +1,247 @@
+//! Statements that hold others.
+
+ghost use Rattle.std.specs.Prelude.{◌≡◌, ◌≤◌, [], map, option_map, IfOk};
+ghost use Rattle.c_tree.specs.View.{view_expression};
+ghost use Rattle.c_tree.specs.StatementView.{view_start, view_statement, statements_of};
+ghost use Rattle.c_tree.specs.Tree.{block};
+ghost use Rattle.c_grammar.specs.declared.kind.Kind.TheVariants as k;
+ghost use Rattle.c_grammar.specs.Body.{look};
+ghost use Rattle.c_grammar.specs.Performing.{perform};
+ghost use Rattle.c_grammar.specs.Rules.{statement_by, else_by};
+ghost use Rattle.expression_parser.specs.Gives.{Gives};
+ghost use Rattle.statement_parser.specs.Nests.{Nests};
+ghost use Rattle.statement_parser.specs.Parts.{for_tested, for_repeated, switched};
+ghost use Rattle.statement_parser.specs.Place.{view_place};
+
+use crate::optional::{optional, start};
+use crate::place::Place;
+use crate::reader::{Found, Nested, Statements};
+use c_grammar::{Cursor, Kind};
+use c_tree::{Expr, ForStart, Stmt};
+use expression_parser::refusal::Refusal;
+use expression_parser::steps::{expect, spend};
+use program_scope::Types;
+use sqlite_items::{Boxed, Items};
+use std::alloc::{AllocError, Global};
+
+/// Statements as one.
+#[tactic(auto, using(c_tree::proofs::StatementViewLemmas::view_Stmt_Block))]
+fn as_block(alloc: Global, found: Items<Stmt>) -> Result<Boxed<Stmt>, AllocError>
+    ensures { IfOk result (λ b. view_statement b ≡ block (statements_of (map view_statement found))) }
+{
+    Boxed::new(alloc, Stmt::Block(found))
+}
+
+impl<
+    F: Fn(Global, &Types, &mut Cursor<'_>, usize, u32, Nested) -> Result<Found, Refusal>,
+> Statements<'_, F> {
+    /// Statements in their braces.
+    #[tactic(auto, using(c_tree::proofs::StatementViewLemmas::view_Stmt_Block))]
+    pub fn braced(
+        &self,
+        cursor: &mut Cursor<'_>,
+        d: u32,
+        place: Place,
+        owed: u32,
+    ) -> Result<Stmt, Refusal>
+        requires nests { Nests self.now.budget (F.pre self.now.read) (F.post self.now.read) }
+        requires small { d ≤ 1000 }
+        ensures { Gives view_statement (perform (statement_by self.now.types.now d (view_place place) owed k.OpenBrace) cursor.old) result cursor.new }
+    {
+        spend(cursor, owed, d + 1)?;
+        cursor.take();
+        let found = self.block(cursor, d + 1, place.of_block())?;
+        Ok(Stmt::Block(found))
+    }
+
+    /// Behind the branch of an if: an else and its branch, or nothing.
+    #[tactic(auto, using(crate::proofs::Branches::view_if, crate::proofs::Branches::view_if_else))]
+    fn alternative(
+        &self,
+        cursor: &mut Cursor<'_>,
+        d: u32,
+        place: Place,
+        condition: Expr,
+        branch: Boxed<Stmt>,
+    ) -> Result<Stmt, Refusal>
+        requires nests { Nests self.now.budget (F.pre self.now.read) (F.post self.now.read) }
+        requires small { d ≤ 1000 }
+        ensures { Gives view_statement (perform (look [] (else_by self.now.types.now d (view_place place) (view_expression condition) (view_statement branch))) cursor.old) result cursor.new }
+    {
+        match cursor.kind() {
+            Kind::Else => {
+                spend(cursor, 1, d + 2)?;
+                cursor.take();
+                let other = self.statement(cursor, d + 1, place.of_branch(), 0)?;
+                Ok(Stmt::If(condition, branch, Some(other)))
+            }
+            _ => Ok(Stmt::If(condition, branch, None)),
+        }
+    }
+
+    /// An if, with an else or without.
+    pub fn if_statement(
+        &self,
+        cursor: &mut Cursor<'_>,
+        d: u32,
+        place: Place,
+        owed: u32,
+    ) -> Result<Stmt, Refusal>
+        requires nests { Nests self.now.budget (F.pre self.now.read) (F.post self.now.read) }
+        requires small { d ≤ 1000 }
+        requires few { owed ≤ 999 }
+        ensures { Gives view_statement (perform (statement_by self.now.types.now d (view_place place) owed k.If) cursor.old) result cursor.new }
+    {
+        spend(cursor, owed + 2, d + 2)?;
+        cursor.take();
+        expect(cursor, Kind::OpenParen)?;
+        let condition = self.expression(cursor, d + 1, 1, 0)?;
+        expect(cursor, Kind::CloseParen)?;
+        let branch = self.statement(cursor, d + 1, place.of_branch(), 0)?;
+        self.alternative(cursor, d, place, condition, branch)
+    }
+
+    /// A while.
+    #[tactic(auto, using(c_tree::proofs::StatementViewLemmas::view_Stmt_While))]
+    pub fn while_loop(
+        &self,
+        cursor: &mut Cursor<'_>,
+        d: u32,
+        place: Place,
+        owed: u32,
+    ) -> Result<Stmt, Refusal>
+        requires nests { Nests self.now.budget (F.pre self.now.read) (F.post self.now.read) }
+        requires small { d ≤ 1000 }
+        requires few { owed ≤ 999 }
+        ensures { Gives view_statement (perform (statement_by self.now.types.now d (view_place place) owed k.While) cursor.old) result cursor.new }
+    {
+        spend(cursor, owed + 2, d + 2)?;
+        cursor.take();
+        expect(cursor, Kind::OpenParen)?;
+        let condition = self.expression(cursor, d + 1, 1, 0)?;
+        expect(cursor, Kind::CloseParen)?;
+        let repeated = self.statement(cursor, d + 1, place.of_loop(), 0)?;
+        Ok(Stmt::While(condition, repeated))
+    }
+
+    /// A do, with its condition.
+    #[tactic(auto, using(c_tree::proofs::StatementViewLemmas::view_Stmt_DoWhile))]
+    pub fn do_loop(
+        &self,
+        cursor: &mut Cursor<'_>,
+        d: u32,
+        place: Place,
+        owed: u32,
+    ) -> Result<Stmt, Refusal>
+        requires nests { Nests self.now.budget (F.pre self.now.read) (F.post self.now.read) }
+        requires small { d ≤ 1000 }
+        requires few { owed ≤ 999 }
+        ensures { Gives view_statement (perform (statement_by self.now.types.now d (view_place place) owed k.Do) cursor.old) result cursor.new }
+    {
+        spend(cursor, owed + 2, d + 2)?;
+        cursor.take();
+        let repeated = self.statement(cursor, d + 1, place.of_loop(), 0)?;
+        expect(cursor, Kind::While)?;
+        expect(cursor, Kind::OpenParen)?;
+        let condition = self.expression(cursor, d + 1, 1, 0)?;
+        expect(cursor, Kind::CloseParen)?;
+        expect(cursor, Kind::Semicolon)?;
+        Ok(Stmt::DoWhile(repeated, condition))
+    }
+
+    /// A for, behind its closing bracket.
+    #[tactic(auto, using(c_tree::proofs::StatementViewLemmas::view_Stmt_For))]
+    fn for_repeated(
+        &self,
+        cursor: &mut Cursor<'_>,
+        d: u32,
+        place: Place,
+        first: ForStart,
+        test: Option<Expr>,
+        step: Option<Expr>,
+    ) -> Result<Stmt, Refusal>
+        requires nests { Nests self.now.budget (F.pre self.now.read) (F.post self.now.read) }
+        requires small { d ≤ 998 }
+        ensures { Gives view_statement (perform (for_repeated self.now.types.now d (view_place place) (view_start first) (option_map view_expression test) (option_map view_expression step)) cursor.old) result cursor.new }
+    {
+        let repeated = self.statement(cursor, d + 1, place.of_loop(), 0)?;
+        Ok(Stmt::For(first, test, step, repeated))
+    }
+
+    /// A for, behind what it begins with.
+    fn for_tested(
+        &self,
+        cursor: &mut Cursor<'_>,
+        d: u32,
+        place: Place,
+        first: ForStart,
+    ) -> Result<Stmt, Refusal>
+        requires nests { Nests self.now.budget (F.pre self.now.read) (F.post self.now.read) }
+        requires small { d ≤ 998 }
+        ensures { Gives view_statement (perform (for_tested self.now.types.now d (view_place place) (view_start first)) cursor.old) result cursor.new }
+    {
+        let test = optional(self.alloc, self.types, cursor, d + 1, Kind::Semicolon)?;
+        let step = optional(self.alloc, self.types, cursor, d + 1, Kind::CloseParen)?;
+        self.for_repeated(cursor, d, place, first, test, step)
+    }
+
+    /// A for.
+    pub fn for_loop(
+        &self,
+        cursor: &mut Cursor<'_>,
+        d: u32,
+        place: Place,
+        owed: u32,
+    ) -> Result<Stmt, Refusal>
+        requires nests { Nests self.now.budget (F.pre self.now.read) (F.post self.now.read) }
+        requires small { d ≤ 1000 }
+        requires few { owed ≤ 999 }
+        ensures { Gives view_statement (perform (statement_by self.now.types.now d (view_place place) owed k.For) cursor.old) result cursor.new }
+    {
+        spend(cursor, owed + 1, d + 2)?;
+        cursor.take();
+        expect(cursor, Kind::OpenParen)?;
+        let first = start(self.alloc, self.types, cursor, d + 1)?;
+        self.for_tested(cursor, d, place, first)
+    }
+
+    /// A switch, behind the opening brace.
+    #[tactic(auto, using(c_tree::proofs::StatementViewLemmas::view_Stmt_Switch))]
+    fn switched(
+        &self,
+        cursor: &mut Cursor<'_>,
+        d: u32,
+        place: Place,
+        value: Expr,
+    ) -> Result<Stmt, Refusal>
+        requires nests { Nests self.now.budget (F.pre self.now.read) (F.post self.now.read) }
+        requires small { d ≤ 998 }
+        ensures { Gives view_statement (perform (switched self.now.types.now d (view_place place) (view_expression value)) cursor.old) result cursor.new }
+    {
+        let found = self.block(cursor, d + 2, place.of_switch())?;
+        let inner = as_block(self.alloc, found)?;
+        Ok(Stmt::Switch(value, inner))
+    }
+
+    /// A switch, with its block.
+    pub fn switch(
+        &self,
+        cursor: &mut Cursor<'_>,
+        d: u32,
+        place: Place,
+        owed: u32,
+    ) -> Result<Stmt, Refusal>
+        requires nests { Nests self.now.budget (F.pre self.now.read) (F.post self.now.read) }
+        requires small { d ≤ 1000 }
+        requires few { owed ≤ 999 }
+        ensures { Gives view_statement (perform (statement_by self.now.types.now d (view_place place) owed k.Switch) cursor.old) result cursor.new }
+    {
+        spend(cursor, owed + 2, d + 2)?;
+        cursor.take();
+        expect(cursor, Kind::OpenParen)?;
+        let value = self.expression(cursor, d + 1, 1, 0)?;
+        expect(cursor, Kind::CloseParen)?;
+        expect(cursor, Kind::OpenBrace)?;
+        self.switched(cursor, d, place, value)
+    }
+}

@@ -1,0 +1,71 @@
+//! Expressions that may be left out, and what a for begins with.
+
+ghost use Rattle.std.specs.Prelude.{◌≡◌, ◌≤◌, option_map};
+ghost use Rattle.c_tree.specs.View.{view_expression};
+ghost use Rattle.c_tree.specs.StatementView.{view_start};
+ghost use Rattle.c_grammar.specs.Kind.{IsReal};
+ghost use Rattle.c_grammar.specs.Reading.{read};
+ghost use Rattle.c_grammar.specs.Rules as rules;
+ghost use Rattle.c_grammar.specs.Rules.{an_optional, a_start};
+ghost use Rattle.expression_parser.specs.Gives.{Gives};
+
+use c_grammar::{Cursor, Kind, same_kind};
+use c_tree::{Expr, ForStart};
+use declaration_parser::declaration;
+use expression_parser::infix::begins_type;
+use expression_parser::refusal::Refusal;
+use expression_parser::steps::{expect, kind, spend};
+use program_scope::Types;
+use std::alloc::Global;
+use type_parser::nest::expression;
+
+/// Whether a declaration inside a function begins with a token of this kind.
+pub fn begins_declaration(kind: Kind) -> bool
+    ensures { result ≡ rules.begins_declaration kind }
+{
+    match kind {
+        Kind::Static | Kind::Extern => true,
+        _ => begins_type(kind),
+    }
+}
+
+/// An expression and a token of this kind, or the token alone.
+#[tactic(auto, using(expression_parser::proofs::Opens::optional_performs))]
+pub fn optional(
+    alloc: Global,
+    types: &Types,
+    cursor: &mut Cursor<'_>,
+    d: u32,
+    end: Kind,
+) -> Result<Option<Expr>, Refusal>
+    requires small { d ≤ 1001 }
+    requires real { IsReal end }
+    ensures { Gives (option_map view_expression) (read (an_optional types.now d end) cursor.old) result cursor.new }
+{
+    if same_kind(cursor.kind(), end) {
+        cursor.take();
+        return Ok(None);
+    }
+    let found = expression(alloc, types, cursor, d, 1, 1)?;
+    expect(cursor, end)?;
+    Ok(Some(found))
+}
+
+/// What a for begins with, with its semicolon.
+#[tactic(auto, using(expression_parser::proofs::Opens::start_performs))]
+pub fn start(
+    alloc: Global,
+    types: &Types,
+    cursor: &mut Cursor<'_>,
+    d: u32,
+) -> Result<ForStart, Refusal>
+    requires { d ≤ 1001 }
+    ensures { Gives view_start (read (a_start types.now d) cursor.old) result cursor.new }
+{
+    if begins_declaration(kind(types, cursor)) {
+        spend(cursor, 1, d + 1)?;
+        Ok(ForStart::Decl(declaration(alloc, types, cursor, d + 1)?))
+    } else {
+        Ok(ForStart::Expr(optional(alloc, types, cursor, d, Kind::Semicolon)?))
+    }
+}

@@ -1,0 +1,113 @@
+//! The rules for statements take the reader of the statements in them as a parameter, so that each is proved by itself.
+
+ghost use Rattle.std.specs.Prelude.{◌≡◌, ◌≤◌, map};
+ghost use Rattle.c_tree.specs.View.{view_expression};
+ghost use Rattle.c_tree.specs.StatementView.{view_statement, statements_of};
+ghost use Rattle.c_grammar.specs.Reading.{read};
+ghost use Rattle.c_grammar.specs.Rules.{an_expression, a_statement, all_statements};
+ghost use Rattle.expression_parser.specs.Gives.{Gives};
+ghost use Rattle.statement_parser.specs.Nests.{Nests};
+ghost use Rattle.statement_parser.specs.Place.{view_place};
+
+use crate::place::Place;
+use c_grammar::Cursor;
+use c_tree::{Expr, Stmt};
+use expression_parser::refusal::Refusal;
+use program_scope::Types;
+use sqlite_items::{Boxed, Items};
+use std::alloc::Global;
+use type_parser::nest::expression;
+
+/// What may hold others of its kind.
+#[derive(Clone, Copy)]
+pub enum Nested {
+    /// A statement, whose first token makes so many nodes necessary besides its own.
+    Statement { place: Place, owed: u32 },
+    /// The statements of a block, with the closing brace.
+    Block { place: Place },
+}
+
+#[derive(Drop)]
+pub enum Found {
+    Statement(Boxed<Stmt>),
+    Block(Items<Stmt>),
+}
+
+#[derive(Drop)]
+pub struct Statements<'a, F> {
+    pub alloc: Global,
+    /// The names that are types.
+    pub types: &'a Types,
+    /// How often statements may still nest.
+    pub budget: usize,
+    pub read: F,
+}
+
+impl<
+    F: Fn(Global, &Types, &mut Cursor<'_>, usize, u32, Nested) -> Result<Found, Refusal>,
+> Statements<'_, F> {
+    /// A statement, whose first token makes so many nodes necessary besides its own.
+    pub fn statement(
+        &self,
+        cursor: &mut Cursor<'_>,
+        d: u32,
+        place: Place,
+        owed: u32,
+    ) -> Result<Boxed<Stmt>, Refusal>
+        requires nests { Nests self.now.budget (F.pre self.now.read) (F.post self.now.read) }
+        requires small { d ≤ 1000 }
+        requires few { owed ≤ 999 }
+        ensures { Gives view_statement (read (a_statement self.now.types.now d (view_place place) owed) cursor.old) result cursor.new }
+    {
+        match (self.read)(
+            self.alloc,
+            self.types,
+            cursor,
+            self.budget,
+            d,
+            Nested::Statement { place, owed },
+        )? {
+            Found::Statement(found) => Ok(found),
+            _ => Err(Refusal::NoMemory),
+        }
+    }
+
+    /// The statements of a block, with the closing brace.
+    pub fn block(
+        &self,
+        cursor: &mut Cursor<'_>,
+        d: u32,
+        place: Place,
+    ) -> Result<Items<Stmt>, Refusal>
+        requires nests { Nests self.now.budget (F.pre self.now.read) (F.post self.now.read) }
+        requires small { d ≤ 1000 }
+        ensures { Gives (λ ss. statements_of (map view_statement ss)) (read (all_statements self.now.types.now d (view_place place)) cursor.old) result cursor.new }
+    {
+        match (self.read)(
+            self.alloc,
+            self.types,
+            cursor,
+            self.budget,
+            d,
+            Nested::Block { place },
+        )? {
+            Found::Block(found) => Ok(found),
+            _ => Err(Refusal::NoMemory),
+        }
+    }
+
+    /// An expression of at least this level.
+    pub fn expression(
+        &self,
+        cursor: &mut Cursor<'_>,
+        d: u32,
+        least: u8,
+        owed: u32,
+    ) -> Result<Expr, Refusal>
+        requires small { d ≤ 1001 }
+        requires few { owed ≤ 1000 }
+        ensures { Gives view_expression (read (an_expression self.now.types.now d least owed) cursor.old) result cursor.new }
+    {
+        expression(self.alloc, self.types, cursor, d, least, owed)
+    }
+}

@@ -1,0 +1,269 @@
+//! Statements that hold no others.
+
+ghost use Rattle.std.specs.Prelude.{◌≡◌, ◌≤◌, []};
+ghost use Rattle.c_tree.specs.StatementView.{view_statement};
+ghost use Rattle.c_grammar.specs.declared.kind.Kind.TheVariants as k;
+ghost use Rattle.c_grammar.specs.Body.{look};
+ghost use Rattle.c_grammar.specs.Performing.{perform};
+ghost use Rattle.c_grammar.specs.Rules as rules;
+ghost use Rattle.c_grammar.specs.Rules.{statement_by, labelled_by};
+ghost use Rattle.expression_parser.specs.Gives.{Gives};
+ghost use Rattle.statement_parser.specs.Parts as parts;
+ghost use Rattle.statement_parser.specs.Place.{view_place};
+
+use crate::optional::optional;
+use crate::place::Place;
+use base_core::Lexeme;
+use c_grammar::{Cursor, Kind};
+use c_tree::{Expr, Stmt};
+use declaration_parser::declaration;
+use expression_parser::refusal::Refusal;
+use expression_parser::steps::{expect, name, refused, spend, word};
+use program_scope::Types;
+use std::alloc::Global;
+use type_parser::nest::{expression, rest};
+
+/// An expression and its semicolon.
+#[tactic(auto, using(c_tree::proofs::StatementViewLemmas::view_Stmt_Expr))]
+pub fn expressed(
+    alloc: Global,
+    types: &Types,
+    cursor: &mut Cursor<'_>,
+    d: u32,
+    owed: u32,
+) -> Result<Stmt, Refusal>
+    requires small { d ≤ 1000 }
+    requires few { owed ≤ 999 }
+    ensures { Gives view_statement (perform (rules.expressed types.now d owed) cursor.old) result cursor.new }
+{
+    let found = expression(alloc, types, cursor, d + 1, 1, owed + 1)?;
+    expect(cursor, Kind::Semicolon)?;
+    Ok(Stmt::Expr(Some(found)))
+}
+
+/// An expression and its semicolon, behind the name that it begins with.
+#[tactic(auto, using(c_tree::proofs::ViewLemmas::view_Expr_Name, c_tree::proofs::StatementViewLemmas::view_Stmt_Expr))]
+fn named_expression(
+    alloc: Global,
+    types: &Types,
+    cursor: &mut Cursor<'_>,
+    d: u32,
+    name: Lexeme,
+) -> Result<Stmt, Refusal>
+    requires small { d ≤ 1000 }
+    ensures { Gives view_statement (perform (parts.named_expression types.now d name) cursor.old) result cursor.new }
+{
+    spend(cursor, 1, d + 2)?;
+    let outer = cursor.enter(d + 2);
+    let found = rest(alloc, types, cursor, d + 1, 1, Expr::Name(name))?;
+    cursor.leave(outer);
+    expect(cursor, Kind::Semicolon)?;
+    Ok(Stmt::Expr(Some(found)))
+}
+
+/// Behind a name that begins a statement in a block: its colon where it is a label, or an expression goes on.
+#[tactic(auto, using(c_tree::proofs::StatementViewLemmas::view_Stmt_Label))]
+fn labelled(
+    alloc: Global,
+    types: &Types,
+    cursor: &mut Cursor<'_>,
+    d: u32,
+    name: Lexeme,
+) -> Result<Stmt, Refusal>
+    requires small { d ≤ 1000 }
+    ensures { Gives view_statement (perform (look [] (labelled_by types.now d name)) cursor.old) result cursor.new }
+{
+    match cursor.kind() {
+        Kind::Colon => {
+            cursor.take();
+            Ok(Stmt::Label(name))
+        }
+        _ => named_expression(alloc, types, cursor, d, name),
+    }
+}
+
+/// A statement that begins with a name: directly in a block perhaps a label.
+pub fn named(
+    alloc: Global,
+    types: &Types,
+    cursor: &mut Cursor<'_>,
+    d: u32,
+    place: Place,
+    owed: u32,
+) -> Result<Stmt, Refusal>
+    requires small { d ≤ 1000 }
+    requires few { owed ≤ 999 }
+    ensures { Gives view_statement (perform (parts.plain_by types.now d (view_place place) owed k.Name) cursor.old) result cursor.new }
+{
+    if !place.in_block {
+        return expressed(alloc, types, cursor, d, owed);
+    }
+    spend(cursor, owed, d + 1)?;
+    let name = word(alloc, cursor)?;
+    labelled(alloc, types, cursor, d, name)
+}
+
+/// A declaration, which stands directly in a block.
+#[tactic(auto, using(c_tree::proofs::StatementViewLemmas::view_Stmt_Decl))]
+pub fn declared(
+    alloc: Global,
+    types: &Types,
+    cursor: &mut Cursor<'_>,
+    d: u32,
+    place: Place,
+    owed: u32,
+) -> Result<Stmt, Refusal>
+    requires small { d ≤ 1000 }
+    ensures { Gives view_statement (perform (parts.declared types.now d (view_place place) owed) cursor.old) result cursor.new }
+{
+    if !place.in_block {
+        return Err(refused(cursor));
+    }
+    spend(cursor, owed, d + 1)?;
+    Ok(Stmt::Decl(declaration(alloc, types, cursor, d + 1)?))
+}
+
+/// A semicolon alone.
+#[tactic(auto, using(c_tree::proofs::StatementViewLemmas::view_Stmt_Expr))]
+pub fn empty(
+    types: &Types,
+    cursor: &mut Cursor<'_>,
+    d: u32,
+    place: Place,
+    owed: u32,
+) -> Result<Stmt, Refusal>
+    requires small { d ≤ 1000 }
+    ensures { Gives view_statement (perform (statement_by types.now d (view_place place) owed k.Semicolon) cursor.old) result cursor.new }
+{
+    spend(cursor, owed, d + 1)?;
+    cursor.take();
+    Ok(Stmt::Expr(None))
+}
+
+/// A case of a switch.
+#[tactic(auto, using(c_tree::proofs::StatementViewLemmas::view_Stmt_Case))]
+pub fn case(
+    alloc: Global,
+    types: &Types,
+    cursor: &mut Cursor<'_>,
+    d: u32,
+    place: Place,
+    owed: u32,
+) -> Result<Stmt, Refusal>
+    requires small { d ≤ 1000 }
+    requires few { owed ≤ 999 }
+    ensures { Gives view_statement (perform (statement_by types.now d (view_place place) owed k.Case) cursor.old) result cursor.new }
+{
+    if !place.in_cases {
+        return Err(refused(cursor));
+    }
+    spend(cursor, owed + 1, d + 2)?;
+    cursor.take();
+    let value = expression(alloc, types, cursor, d + 1, 3, 0)?;
+    expect(cursor, Kind::Colon)?;
+    Ok(Stmt::Case(value))
+}
+
+/// The default of a switch.
+#[tactic(auto, using(c_tree::proofs::StatementViewLemmas::view_Stmt_Default))]
+pub fn default(
+    types: &Types,
+    cursor: &mut Cursor<'_>,
+    d: u32,
+    place: Place,
+    owed: u32,
+) -> Result<Stmt, Refusal>
+    requires small { d ≤ 1000 }
+    ensures { Gives view_statement (perform (statement_by types.now d (view_place place) owed k.Default) cursor.old) result cursor.new }
+{
+    if !place.in_cases {
+        return Err(refused(cursor));
+    }
+    spend(cursor, owed, d + 1)?;
+    cursor.take();
+    expect(cursor, Kind::Colon)?;
+    Ok(Stmt::Default)
+}
+
+/// A break, which stands in a loop or a switch.
+#[tactic(auto, using(c_tree::proofs::StatementViewLemmas::view_Stmt_Break))]
+pub fn break_out(
+    types: &Types,
+    cursor: &mut Cursor<'_>,
+    d: u32,
+    place: Place,
+    owed: u32,
+) -> Result<Stmt, Refusal>
+    requires small { d ≤ 1000 }
+    ensures { Gives view_statement (perform (statement_by types.now d (view_place place) owed k.Break) cursor.old) result cursor.new }
+{
+    if !(place.in_loop || place.in_switch) {
+        return Err(refused(cursor));
+    }
+    spend(cursor, owed, d + 1)?;
+    cursor.take();
+    expect(cursor, Kind::Semicolon)?;
+    Ok(Stmt::Break)
+}
+
+/// A continue, which stands in a loop.
+#[tactic(auto, using(c_tree::proofs::StatementViewLemmas::view_Stmt_Continue))]
+pub fn continue_on(
+    types: &Types,
+    cursor: &mut Cursor<'_>,
+    d: u32,
+    place: Place,
+    owed: u32,
+) -> Result<Stmt, Refusal>
+    requires small { d ≤ 1000 }
+    ensures { Gives view_statement (perform (statement_by types.now d (view_place place) owed k.Continue) cursor.old) result cursor.new }
+{
+    if !place.in_loop {
+        return Err(refused(cursor));
+    }
+    spend(cursor, owed, d + 1)?;
+    cursor.take();
+    expect(cursor, Kind::Semicolon)?;
+    Ok(Stmt::Continue)
+}
+
+/// A return, with a value or without.
+#[tactic(auto, using(c_tree::proofs::StatementViewLemmas::view_Stmt_Return))]
+pub fn return_back(
+    alloc: Global,
+    types: &Types,
+    cursor: &mut Cursor<'_>,
+    d: u32,
+    place: Place,
+    owed: u32,
+) -> Result<Stmt, Refusal>
+    requires small { d ≤ 1000 }
+    ensures { Gives view_statement (perform (statement_by types.now d (view_place place) owed k.Return) cursor.old) result cursor.new }
+{
+    let _ = place;
+    spend(cursor, owed, d + 1)?;
+    cursor.take();
+    let value = optional(alloc, types, cursor, d + 1, Kind::Semicolon)?;
+    Ok(Stmt::Return(value))
+}
+
+/// A goto.
+#[tactic(auto, using(c_tree::proofs::StatementViewLemmas::view_Stmt_Goto))]
+pub fn go_to(
+    alloc: Global,
+    types: &Types,
+    cursor: &mut Cursor<'_>,
+    d: u32,
+    place: Place,
+    owed: u32,
+) -> Result<Stmt, Refusal>
+    requires small { d ≤ 1000 }
+    ensures { Gives view_statement (perform (statement_by types.now d (view_place place) owed k.Goto) cursor.old) result cursor.new }
+{
+    let _ = place;
+    spend(cursor, owed, d + 1)?;
+    cursor.take();
+    let label = name(alloc, types, cursor)?;
+    expect(cursor, Kind::Semicolon)?;
+    Ok(Stmt::Goto(label))
+}

@@ -1,8 +1,8 @@
 -- What the rules of initialisers and declarations count.
-use Rattle.std.proofs.Common.{◌≡◌, ℕ, suc, ◌+◌, ◌≤◌, max, ◌∷◌, length, arith, length-append, Bool, cond, None}
+use Rattle.std.proofs.Common.{◌≡◌, ℕ, suc, ◌+◌, ◌≤◌, max, ◌∷◌, length, arith, length-append, Bool, true, false, cond, None}
 use Rattle.c_tree.specs.declared.tree.Storage.{Storage}
 use Rattle.c_tree.specs.declared.tree.Storage.TheVariants as st
-use Rattle.c_tree.specs.TypeWords.{has_tag}
+use Rattle.c_tree.specs.TypeWords.{is_one_type, type_words, has_tag}
 use Rattle.c_tree.specs.Tree.{Specifiers, DeclaratorTree, single, initializers, NamedTree}
 use Rattle.c_tree.specs.Nodes.{Node, nodes_named, nodes_declarator, nodes_specifiers}
 use Rattle.c_tree.specs.Depth.{depth_named, depth_declarator, depth_specifiers}
@@ -12,11 +12,11 @@ use Rattle.c_grammar.specs.declared.kind.Kind.TheVariants as k
 use Rattle.c_grammar.specs.Body.{done}
 use Rattle.c_grammar.specs.Body as body
 use Rattle.c_grammar.specs.Gauge.{Meter}
-use Rattle.c_grammar.specs.Rules.{Types, begins_declarator, initializer_by, initializers_by, next_initializer_by, more_initializers_by, declaration_by, declared_names_by, has_initializer, named_init_by, more_named_by, an_expression, an_initializer, all_initializers, more_initializers, a_declaration, a_declared, a_named, more_named}
+use Rattle.c_grammar.specs.Rules.{Types, Reads, naming, begins_declarator, initializer_by, initializers_by, next_initializer_by, more_initializers_by, declaration_by, declared_names_by, has_initializer, named_init_by, more_named_by, an_expression, an_initializer, all_initializers, more_initializers, a_declaration, a_declared, a_named, more_named}
 use Rattle.c_grammar.proofs.Conditions.{go_done, go_stop, go_look, go_call, go_if}
-use Rattle.c_grammar.proofs.Costs.{Costs}
+use Rattle.c_grammar.proofs.Costs.{Costs, first_count}
 use Rattle.c_grammar.proofs.CostSteps.{Counts, Cost, pay, skips, wants, a_name_taken}
-use Rattle.c_grammar.proofs.CostNumbers.{names_size, declaration_size, initializer_deep}
+use Rattle.c_grammar.proofs.CostNumbers.{names_size, declaration_size, initializer_deep, first_counted}
 
 -- ---- initialisers
 
@@ -74,18 +74,33 @@ declaration-by t d _ ts m = declaration-plain t d st.Nothing ts ts m
 pub declaration-cost : (t : Types) (d : ℕ) → Cost (a_declaration t d)
 declaration-cost t d ts m = go_look (λ e is. declaration-by t d e ts m)
 
--- behind the specifiers of a declaration
-abbrev Specifies : ℕ → Specifiers → Meter → Meter → Type 0
-Specifies d ws m n = d ≤ m.peak → (n.made ≡ m.made + length (nodes_specifiers ws)) × (n.peak ≡ max m.peak (d + depth_specifiers ws))
+-- behind specifiers that a name has to follow, unless they have a struct or an enum
+abbrev pub Specifies : ℕ → Specifiers → Meter → Meter → Type 0
+Specifies d ws m n = d ≤ m.peak → (n.made ≡ m.made + (first_count ws + length (nodes_specifiers ws))) × (n.peak ≡ max m.peak (d + max (first_count ws) (depth_specifiers ws))) × (is_one_type (type_words ws) ≡ true)
+
+-- the specifiers are counted, and the name that follows
+abbrev pub Begins : ℕ → Specifiers → Meter → Meter → Type 0
+Begins d ws m n = d ≤ m.peak → (n.made ≡ m.made + suc (length (nodes_specifiers ws))) × (n.peak ≡ max m.peak (d + max 1 (depth_specifiers ws)))
+
+-- a struct or an enum alone counts no name
+pub tag-alone : (d : ℕ) (ws : Specifiers) (m n : Meter) → has_tag ws ≡ true → Specifies d ws m n → d ≤ m.peak → (n.made ≡ m.made + length (nodes_specifiers ws)) × (n.peak ≡ max m.peak (d + depth_specifiers ws))
+tag-alone d ws m n tag h before = let a = h before in let none : first_count ws ≡ 0 = first_counted ws true tag a.2 in (omega arith, omega arith)
+
+-- the name is counted before its declarator, or was counted with the first word of its type
+pub name-first : {A : Type 0} {Q : A → Tokens → Meter → Type 0} {us : Tokens} {f : Reads A} (d : ℕ) (ws : Specifiers) (m n : Meter) → Specifies d ws m n → ((z : Meter) → Begins d ws m z → Counts f Q us z) →
+    Counts (naming (has_tag ws) d f) Q us n
+name-first d ws m n h g = go_if {b = has_tag ws}
+    (λ yes. pay (g _ (λ before. let a = h before in let none : first_count ws ≡ 0 = first_counted ws true yes a.2 in (omega arith, omega arith))))
+    (λ no. g _ (λ before. let a = h before in let one : first_count ws ≡ 1 = first_counted ws false no a.2 in (omega arith, omega arith)))
 
 declared-first : (t : Types) (d : ℕ) (c : Storage) (ws : Specifiers) (e : Kind) (ts us : Tokens) (m n : Meter) → Specifies d ws m n →
-    Counts (cond (begins_declarator e) (body.spend 1 (d + 1) (body.call (a_named t d) (λ x. body.call (more_named t d) (λ xs. done (record { storage = c; specs = ws; names = x ∷ xs }))))) body.stop) (Costs (a_declared t d c) ts m) us n
+    Counts (cond (begins_declarator e) (naming (has_tag ws) d (body.call (a_named t d) (λ x. body.call (more_named t d) (λ xs. done (record { storage = c; specs = ws; names = x ∷ xs }))))) body.stop) (Costs (a_declared t d c) ts m) us n
 declared-first t d s ws e ts us m n h = go_if {b = begins_declarator e}
-    (λ yes. pay (go_call (λ x vs o p. go_call (λ xs bs z r. go_done (λ before. let a = h before in let b = p (omega arith) in let c = r (omega arith) in (omega (arith, names_size x xs, declaration_size (record { storage = s; specs = ws; names = x ∷ xs })), omega arith))))))
+    (λ yes. name-first d ws m n h (λ y i. go_call (λ x vs o p. go_call (λ xs bs z r. go_done (λ before. let a = i before in let b = p (omega arith) in let c = r (omega arith) in (omega (arith, names_size x xs, declaration_size (record { storage = s; specs = ws; names = x ∷ xs })), omega arith))))))
     (λ no. go_stop)
 
 declared-names-by : (t : Types) (d : ℕ) (c : Storage) (ws : Specifiers) (e : Kind) (ts us : Tokens) (m n : Meter) → Specifies d ws m n → Counts (declared_names_by t d c ws e) (Costs (a_declared t d c) ts m) us n
-declared-names-by t d c ws k.Semicolon ts us m n h = go_if {b = has_tag ws} (λ yes. skips (λ _ vs. go_done (λ before. let a = h before in (omega (arith, length-append {A = Node}), omega arith)))) (λ no. go_stop)
+declared-names-by t d c ws k.Semicolon ts us m n h = go_if {b = has_tag ws} (λ yes. skips (λ _ vs. go_done (λ before. let a = tag-alone d ws m n yes h before in (omega (arith, length-append {A = Node}), omega arith)))) (λ no. go_stop)
 declared-names-by t d c ws e ts us m n h = declared-first t d c ws e ts us m n h
 
 -- a declaration behind its storage

@@ -1,8 +1,8 @@
 -- What the rules of declarators and parameters count.
-use Rattle.std.proofs.Common.{◌≡◌, ℕ, suc, sym, subst, ◌+◌, max, List, [], length, refl, ap, arith, length-append, Bool, cond}
-use Rattle.c_tree.specs.Tree.{Name, Quals, Stars, no_sizes, size, Specifiers, no_specifiers, specifiers, void_word, Parameters, no_parameters, parameters, bare_form, bare_stars}
-use Rattle.c_tree.specs.Nodes.{Node, nodes_parameters, nodes_specifiers}
-use Rattle.c_tree.specs.Depth.{depth_parameters, depth_specifiers}
+use Rattle.std.proofs.Common.{◌≡◌, ℕ, suc, sym, subst, ◌+◌, ◌≤◌, max, [], length, refl, ap, arith, length-append, Bool, false, cond}
+use Rattle.c_tree.specs.Tree.{Name, Quals, Stars, Sizes, no_sizes, size, DeclaratorTree, array, Specifiers, no_specifiers, specifiers, void_word, Parameters, no_parameters, parameters, bare_form, bare_stars}
+use Rattle.c_tree.specs.Nodes.{Node, nodes_declarator, nodes_parameters, nodes_specifiers}
+use Rattle.c_tree.specs.Depth.{depth_declarator, depth_parameters, depth_specifiers}
 use Rattle.c_tree.specs.Marks.{Tokens}
 use Rattle.c_grammar.specs.declared.kind.Kind.{Kind}
 use Rattle.c_grammar.specs.declared.kind.Kind.TheVariants as k
@@ -10,7 +10,7 @@ use Rattle.c_grammar.specs.Kind.{same_kind}
 use Rattle.c_grammar.specs.Body.{done}
 use Rattle.c_grammar.specs.Body as body
 use Rattle.c_grammar.specs.Gauge.{Meter}
-use Rattle.c_grammar.specs.Rules.{Types, named_by, stars_by, quals_by, declared_by, pointed, declarator_by, size_by, sizes_by, one_size_by, at_most_one_by, listed_parameters, parameters_by, more_parameters_by, parameter_name_by, parameter_pointer_by, parameter_by, bare_by, an_expression, all_stars, all_quals, a_declarator, all_sizes, at_most_one_size, all_parameters, some_parameters, more_parameters, a_parameter, a_bare}
+use Rattle.c_grammar.specs.Rules.{Types, inside, is_function, named_by, stars_by, quals_by, declared_by, pointed, declarator_by, size_by, sizes_by, one_size_by, at_most_one_by, listed_parameters, parameters_by, more_parameters_by, parameter_name_by, parameter_pointer_by, parameter_by, bare_by, an_expression, all_stars, all_quals, a_declarator, all_sizes, at_most_one_size, all_parameters, some_parameters, more_parameters, a_parameter, a_bare}
 use Rattle.c_grammar.proofs.Conditions.{go_done, go_stop, go_look, go_call, go_scope, go_if}
 use Rattle.c_grammar.proofs.Costs.{Costs}
 use Rattle.c_grammar.proofs.CostSteps.{Counts, Cost, pay, lift, skips, wants, names}
@@ -66,27 +66,44 @@ at-most-one-by t d _ ts m = go_done (λ before. (omega arith, omega arith))
 pub at-most-one-cost : (t : Types) (d : ℕ) → Cost (at_most_one_size t d)
 at-most-one-cost t d ts m = go_look (λ e is. at-most-one-by t d e ts m)
 
-declared-by : (t : Types) (d : ℕ) (f : Bool) (ns : List Name) (ss : Stars) (n : Name) (e : Kind) (ts us : Tokens) (m : Meter) → Counts (declared_by t d f ss n e) (Costs (a_declarator t d f ns) ts m) us m
-declared-by t d f ns ss n k.OpenBracket ts us m = go_call (λ xs vs o h. go_done h)
-declared-by t d f ns ss n k.OpenParen ts us m = go_if {b = f} (λ yes. skips (λ _ vs. go_call (λ ps ws o h. go_done h))) (λ no. go_done (λ before. (omega arith, omega arith)))
-declared-by t d f ns ss n _ ts us m = go_done (λ before. (omega arith, omega arith))
+-- what is counted with a declarator
+abbrev pub Declares : ℕ → Meter → DeclaratorTree → Meter → Type 0
+Declares d m c n = d ≤ m.peak → (n.made ≡ m.made + length (nodes_declarator c)) × (n.peak ≡ max m.peak (d + depth_declarator c))
 
-pointed-by : (t : Types) (d : ℕ) (f : Bool) (ns : List Name) (ss : Stars) (qs : Quals) (n : Name) (ts us : Tokens) (m : Meter) → Counts (pointed t d ss qs n) (Costs (a_declarator t d f ns) ts m) us m
-pointed-by t d f ns ss qs n ts us m = go_call (λ xs vs o p. wants k.CloseParen (λ ws. wants k.OpenParen (λ es. go_call (λ ps bs z h. go_done (λ before.
-    let a = p before in let b = h (omega arith) in (omega (arith, length-append {A = Node}), omega arith))))))
+-- the sizes of an array behind its name
+pub array-by : (t : Types) (d : ℕ) (ss : Stars) (n : Name) (us : Tokens) (m : Meter) (Q : DeclaratorTree → Tokens → Meter → Type 0) →
+    ((xs : Sizes) (vs : Tokens) (z : Meter) → Declares d m (array ss n xs) z → Q (array ss n xs) vs z) → Counts (body.call (all_sizes t d) (λ xs. done (array ss n xs))) Q us m
+array-by t d ss n us m Q g = go_call (λ xs vs o h. go_done (g xs vs o h))
+
+declared-by : (t u : Types) (d : ℕ) (f y : Bool) (ss : Stars) (n : Name) (e : Kind) (ts us : Tokens) (m : Meter) → Counts (declared_by u d f ss n e) (Costs (a_declarator t d f y) ts m) us m
+declared-by t u d f y ss n k.OpenBracket ts us m = array-by u d ss n us m _ (λ xs vs o h. h)
+declared-by t u d f y ss n k.OpenParen ts us m = go_if {b = f} (λ yes. skips (λ _ vs. go_call (λ ps ws o h. go_done h))) (λ no. go_done (λ before. (omega arith, omega arith)))
+declared-by t u d f y ss n _ ts us m = go_done (λ before. (omega arith, omega arith))
+
+pointed-by : (t : Types) (d : ℕ) (ss : Stars) (qs : Quals) (n : Name) (us : Tokens) (m : Meter) (Q : DeclaratorTree → Tokens → Meter → Type 0) →
+    ((c : DeclaratorTree) (vs : Tokens) (z : Meter) → is_function c ≡ false → Declares d m c z → Q c vs z) → Counts (pointed t d ss qs n) Q us m
+pointed-by t d ss qs n us m Q g = go_call (λ xs vs o p. wants k.CloseParen (λ ws. wants k.OpenParen (λ es. go_call (λ ps bs z h. go_done (g _ _ _ refl (λ before.
+    let a = p before in let b = h (omega arith) in (omega (arith, length-append {A = Node}), omega arith)))))))
 
 -- behind the star and the qualifiers of a pointer to a function
-pointer-by : (t : Types) (d : ℕ) (f : Bool) (ns : List Name) (ss : Stars) (qs : Quals) (e : Kind) (ts us : Tokens) (m n : Meter) → n ≡ m → Counts (named_by [] (pointed t d ss qs) e) (Costs (a_declarator t d f ns) ts m) us n
-pointer-by t d f ns ss qs e ts us m n is = subst (λ z. Counts (named_by [] (pointed t d ss qs) e) (Costs (a_declarator t d f ns) ts m) us z) (sym is) (names [] e (λ a vs. pointed-by t d f ns ss qs a ts vs m))
+pointer-name : (t : Types) (d : ℕ) (y : Bool) (ss : Stars) (qs : Quals) (e : Kind) (us : Tokens) (m n : Meter) (Q : DeclaratorTree → Tokens → Meter → Type 0) → n ≡ m →
+    ((c : DeclaratorTree) (vs : Tokens) (z : Meter) → is_function c ≡ false → Declares d m c z → Q c vs z) → Counts (named_by [] (λ a. pointed (inside y a t) d ss qs a) e) Q us n
+pointer-name t d y ss qs e us m n Q is g =
+    subst (λ z. Counts (named_by [] (λ a. pointed (inside y a t) d ss qs a) e) Q us z) (sym is) (names [] e (λ a vs. pointed-by (inside y a t) d ss qs a vs m Q g))
 
-declarator-by : (t : Types) (d : ℕ) (f : Bool) (ns : List Name) (ss : Stars) (e : Kind) (ts us : Tokens) (m : Meter) → Counts (declarator_by t d f ns ss e) (Costs (a_declarator t d f ns) ts m) us m
-declarator-by t d f ns ss k.Name ts us m = skips (λ n vs. go_look (λ e is. declared-by t d f ns ss n e ts vs m))
-declarator-by t d f ns ss k.OpenParen ts us m = skips (λ _ vs. wants k.Star (λ ws. go_call (λ qs es n p. go_look (λ e is. pointer-by t d f ns ss qs e ts es m n p))))
-declarator-by t d f ns ss _ ts us m = go_stop
+-- a pointer to a function
+pub pointer-by : (t : Types) (d : ℕ) (f y : Bool) (ss : Stars) (us : Tokens) (m : Meter) (Q : DeclaratorTree → Tokens → Meter → Type 0) →
+    ((c : DeclaratorTree) (vs : Tokens) (z : Meter) → is_function c ≡ false → Declares d m c z → Q c vs z) → Counts (declarator_by t d f y ss k.OpenParen) Q us m
+pointer-by t d f y ss us m Q g = skips (λ _ vs. wants k.Star (λ ws. go_call (λ qs es n p. go_look (λ e is. pointer-name t d y ss qs e es m n Q p g))))
+
+declarator-by : (t : Types) (d : ℕ) (f y : Bool) (ss : Stars) (e : Kind) (ts us : Tokens) (m : Meter) → Counts (declarator_by t d f y ss e) (Costs (a_declarator t d f y) ts m) us m
+declarator-by t d f y ss k.Name ts us m = skips (λ n vs. go_look (λ e is. declared-by t (inside y n t) d f y ss n e ts vs m))
+declarator-by t d f y ss k.OpenParen ts us m = pointer-by t d f y ss us m _ (λ c vs z no h. h)
+declarator-by t d f y ss _ ts us m = go_stop
 
 -- a declarator
-pub declarator-cost : (t : Types) (d : ℕ) (f : Bool) (ns : List Name) → Cost (a_declarator t d f ns)
-declarator-cost t d f ns ts m = go_call (λ ss us n p. go_look (λ e is. subst (λ z. Counts (declarator_by t d f ns ss e) (Costs (a_declarator t d f ns) ts m) us z) (sym p) (declarator-by t d f ns ss e ts us m)))
+pub declarator-cost : (t : Types) (d : ℕ) (f y : Bool) → Cost (a_declarator t d f y)
+declarator-cost t d f y ts m = go_call (λ ss us n p. go_look (λ e is. subst (λ z. Counts (declarator_by t d f y ss e) (Costs (a_declarator t d f y) ts m) us z) (sym p) (declarator-by t d f y ss e ts us m)))
 
 -- ---- parameters
 
@@ -142,7 +159,7 @@ parameter-by t d ws ss _ ts us m n h = go_done (λ before. let a = h before in (
 
 -- a parameter in its own scope
 pub parameter-cost : (t : Types) (d : ℕ) → Cost (a_parameter t d)
-parameter-cost t d ts m = go_call (λ ws us n p. go_call (λ ss vs o r. go_look (λ e is. parameter-by t d ws ss e ts vs m o (λ before. let a = p (omega arith) in (cc, cc)))))
+parameter-cost t d ts m = go_call (λ ws us n p. go_call (λ ss vs o r. go_look (λ e is. parameter-by t d ws ss e ts vs m o (λ before. let a = p (omega arith) in let made = ap (λ (z : Meter). z.made) r in let peak = ap (λ (z : Meter). z.peak) r in (omega arith, omega arith)))))
 
 bare-by : (t : Types) (d : ℕ) (ss : Stars) (e : Kind) (ts us : Tokens) (m : Meter) → Counts (bare_by t d ss e) (Costs (a_bare t d) ts m) us m
 bare-by t d ss k.OpenParen ts us m = skips (λ _ vs. wants k.Star (λ ws. go_call (λ qs es n p. wants k.CloseParen (λ bs. wants k.OpenParen (λ cs. go_call (λ ps ds o h. go_done (λ before.

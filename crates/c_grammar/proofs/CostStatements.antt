@@ -11,7 +11,7 @@ use Rattle.c_grammar.specs.Kind.{same_kind}
 use Rattle.c_grammar.specs.Body.{done}
 use Rattle.c_grammar.specs.Body as body
 use Rattle.c_grammar.specs.Gauge.{Meter}
-use Rattle.c_grammar.specs.Rules.{Types, a_rest, begins_declaration, else_by, expressed, labelled_by, statement_by, statements_by, a_declaration, an_optional, a_start, a_statement, all_statements}
+use Rattle.c_grammar.specs.Rules.{Types, a_rest, begins_declaration, else_by, expressed, follows_name, labelled_by, statement_by, statements_by, a_declaration, an_optional, a_start, a_statement, all_statements}
 use Rattle.c_grammar.proofs.Conditions.{go_done, go_stop, go_look, go_call, go_strict, go_scope, go_if}
 use Rattle.c_grammar.proofs.Costs.{Costs}
 use Rattle.c_grammar.proofs.CostSteps.{Counts, Cost, pay, skips, wants, a_name_taken}
@@ -44,10 +44,14 @@ labelled-rest : (t : Types) (d : ℕ) (p : Place) (o : ℕ) (a : Name) (ts us : 
     Counts (body.spend 1 (d + 2) (body.scope (d + 2) (a_rest t (d + 1) 1 (name a)) (λ x. body.look [] (λ j. cond (same_kind j k.Semicolon) (body.take (λ b. done (expression_statement (Some x)))) body.stop)))) (Costs (a_statement t d p o) ts m) us n
 labelled-rest t d p o a ts us m n made peak = pay (go_scope (λ x vs q h. wants k.Semicolon (λ ws. go_done (let b = h (omega arith) in let deep = expression_deep x in (omega arith, omega arith)))))
 
+labelled-else : (t : Types) (d : ℕ) (p : Place) (o : ℕ) (a : Name) (e : Kind) (ts us : Tokens) (m n : Meter) → n.made ≡ m.made + o → n.peak ≡ max m.peak (d + 1) →
+    Counts (cond (follows_name e) (body.spend 1 (d + 2) (body.scope (d + 2) (a_rest t (d + 1) 1 (name a)) (λ x. body.look [] (λ j. cond (same_kind j k.Semicolon) (body.take (λ b. done (expression_statement (Some x)))) body.stop)))) body.stop) (Costs (a_statement t d p o) ts m) us n
+labelled-else t d p o a e ts us m n made peak = go_if {b = follows_name e} (λ yes. labelled-rest t d p o a ts us m n made peak) (λ no. go_stop)
+
 labelled-by : (t : Types) (d : ℕ) (p : Place) (o : ℕ) (a : Name) (e : Kind) (ts us : Tokens) (m n : Meter) → n.made ≡ m.made + o → n.peak ≡ max m.peak (d + 1) →
     Counts (labelled_by t d a e) (Costs (a_statement t d p o) ts m) us n
 labelled-by t d p o a k.Colon ts us m n made peak = skips (λ _ vs. go_done (omega arith, omega arith))
-labelled-by t d p o a _ ts us m n made peak = labelled-rest t d p o a ts us m n made peak
+labelled-by t d p o a e ts us m n made peak = labelled-else t d p o a e ts us m n made peak
 
 -- a declaration or an expression
 statement-else : (t : Types) (d : ℕ) (p : Place) (o : ℕ) (e : Kind) (ts : Tokens) (m : Meter) →

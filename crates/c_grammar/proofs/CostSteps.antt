@@ -4,9 +4,9 @@ use Rattle.c_tree.specs.Tree.{Name}
 use Rattle.c_tree.specs.Marks.{Tokens}
 use Rattle.c_grammar.specs.declared.kind.Kind.{Kind}
 use Rattle.c_grammar.specs.declared.kind.Kind.TheVariants as k
-use Rattle.c_grammar.specs.Body.{take, spend, rise}
+use Rattle.c_grammar.specs.Body.{look, take, spend, rise}
 use Rattle.c_grammar.specs.Gauge.{Meter, counted, added, raised}
-use Rattle.c_grammar.specs.Rules.{Rule, Result, Reads, rule, expect, named_by, a_name}
+use Rattle.c_grammar.specs.Rules.{Rule, Result, Reads, rule, expect, named_by}
 use Rattle.c_grammar.proofs.Conditions.{Goes, go_stop, go_look, go_if}
 use Rattle.c_grammar.proofs.Costs.{Costs}
 use Rattle.c_grammar.proofs.Sure.{Sure}
@@ -52,5 +52,5 @@ module _ {A : Type 0} {Q : A → Tokens → Meter → Type 0} {ts : Tokens} {m :
   names ns _ h = go_stop
 
   -- a name is taken
-  pub a_name_taken : {t : List Name} {f : Name → Reads A} → ((n : Name) (us : Tokens) → Counts (f n) Q us m) → Counts (a_name t f) Q ts m
+  pub a_name_taken : {types : List Name} {f : Name → Reads A} → ((n : Name) (us : Tokens) → Counts (f n) Q us m) → Counts (look types (named_by [] f)) Q ts m
   a_name_taken h = go_look (λ e is. names [] e h)

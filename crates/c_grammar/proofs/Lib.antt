@@ -1,3 +1,4 @@
+pub mod Avoiding
 pub mod ByLength
 pub mod KindLemmas
 pub mod Sure
@@ -11,6 +12,7 @@ pub mod Local
 pub mod Limits
 pub mod Running
 pub mod Keeps
+pub mod Declares
 pub mod SoundRest
 pub mod SoundExpressions
 pub mod SoundTypes
@@ -19,6 +21,9 @@ pub mod SoundParameters
 pub mod SoundDeclarations
 pub mod SoundStatements
 pub mod SoundItems
+pub mod DeclaresExpressions
+pub mod DeclaresTypes
+pub mod DeclaresDeclarators
 pub mod AllSound
 pub mod CostSteps
 pub mod CostNumbers

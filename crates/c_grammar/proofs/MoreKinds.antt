@@ -108,7 +108,7 @@ weight_most : (e : Kind) → own_level (infix_of e) ≤ weight_of e
 weight_most k.Text = omega arith
 weight_most _ = le_refl _
 
-infix_sorted : (types : List Name) (e : Kind) (n : Name) → infix_of (sorted types e n) ≡ infix_of e
+pub infix_sorted : (types : List Name) (e : Kind) (n : Name) → infix_of (sorted types e n) ≡ infix_of e
 infix_sorted types k.Name n = whether (is_among types n)
   where
     whether : (test : Bool) → infix_of (cond test k.TypeName k.Name) ≡ infix_of k.Name

@@ -9,7 +9,7 @@ use Rattle.c_grammar.specs.Body.{done, stop, look, take, spend, rise, call, stri
 use Rattle.c_grammar.specs.Gauge.{Meter, within, added, raised, entered, left}
 use Rattle.c_grammar.specs.Input.{Input}
 use Rattle.c_grammar.specs.Reading.{read}
-use Rattle.c_grammar.specs.Rules.{Rule, Result, Reads, rule, rank, expect, named_by}
+use Rattle.c_grammar.specs.Rules.{Rule, Result, Reads, rule, rank, expect, named_by, naming}
 use Rattle.c_grammar.specs.Performing.{at, perform}
 use Rattle.c_grammar.proofs.KindLemmas.{kind_end, false_same}
 use Rattle.c_grammar.proofs.Running.{Does, opens}
@@ -127,6 +127,11 @@ module _ {A : Type 0} {free : Bool} {limit : ℕ} {seen : Bool} where
   -- likewise, in a scope of its own
   pub fine_scope : {n : ℕ} {r : Rule} {f : Result r → Reads A} → free || nat_lt (rank r) limit ≡ true → ((v : Result r) → Fine A free limit false (f v)) → Fine A free limit seen (scope n r f)
   fine_scope may h = record { sound = (may, λ v. (h v).sound) }
+
+  -- a name has to follow, or not
+  pub fine_naming : (b : Bool) (d : ℕ) {p : Reads A} → Fine A free limit seen p → Fine A free limit seen (naming b d p)
+  fine_naming true d h = fine_spend h
+  fine_naming false d h = h
 
   -- both ways of a test
   pub fine_if : (b : Bool) {p q : Reads A} → Fine A free limit seen p → Fine A free limit seen q → Fine A free limit seen (cond b p q)

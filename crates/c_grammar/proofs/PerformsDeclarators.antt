@@ -1,9 +1,9 @@
 -- The bodies of the rules of declarators, parameters and initialisers are fine.
-use Rattle.std.proofs.Common.{ℕ, Bool, true, false, List, [], refl}
+use Rattle.std.proofs.Common.{ℕ, Bool, true, false, [], refl}
 use Rattle.c_tree.specs.Tree.{Name, Quals, Stars, Sizes, DeclaratorTree, Parameters, BareTree, Specifiers, Initializer, Initializers}
 use Rattle.c_grammar.specs.declared.kind.Kind.{Kind}
 use Rattle.c_grammar.specs.declared.kind.Kind.TheVariants as k
-use Rattle.c_grammar.specs.Rules.{Types, Parameter, stars_by, quals_by, declared_by, pointed, declarator_by, size_by, sizes_by, one_size_by, at_most_one_by, parameters_by, more_parameters_by, parameter_name_by, parameter_pointer_by, parameter_by, bare_by, initializer_by, initializers_by, next_initializer_by, more_initializers_by, all_stars, all_quals, a_declarator, all_sizes, at_most_one_size, all_parameters, some_parameters, more_parameters, a_parameter, a_bare, an_initializer, all_initializers, more_initializers}
+use Rattle.c_grammar.specs.Rules.{Types, Parameter, stars_by, quals_by, declared_by, pointed, declarator_by, size_by, sizes_by, one_size_by, at_most_one_by, parameters_by, more_parameters_by, parameter_name_by, parameter_pointer_by, parameter_by, bare_by, initializer_by, initializers_by, next_initializer_by, more_initializers_by, all_stars, all_quals, a_declarator, all_sizes, at_most_one_size, all_parameters, some_parameters, more_parameters, a_parameter, a_bare, an_initializer, all_initializers, more_initializers, inside}
 use Rattle.c_grammar.proofs.Performs.{Fine, IsFine, fine_done, fine_stop, fine_look, fine_spend, fine_rise, fine_call, fine_scope, fine_if, fine_take, fine_expect, fine_name}
 
 by_stars : (e : Kind) → Fine Stars false 1 true (stars_by e)
@@ -15,18 +15,18 @@ by_quals k.Const = fine_take (λ n. fine_call refl (λ qs. fine_done))
 by_quals k.Volatile = fine_take (λ n. fine_call refl (λ qs. fine_done))
 by_quals _ = fine_done
 
-by_declared : (t : Types) (d : ℕ) (f : Bool) (ss : Stars) (n : Name) (e : Kind) → Fine DeclaratorTree true 2 true (declared_by t d f ss n e)
+pub by_declared : {limit : ℕ} (t : Types) (d : ℕ) (f : Bool) (ss : Stars) (n : Name) (e : Kind) → Fine DeclaratorTree true limit true (declared_by t d f ss n e)
 by_declared t d f ss n k.OpenBracket = fine_call refl (λ xs. fine_done)
 by_declared t d f ss n k.OpenParen = fine_if f (fine_take (λ m. fine_call refl (λ ps. fine_done))) fine_done
 by_declared t d f ss n _ = fine_done
 
-by_pointed : (t : Types) (d : ℕ) (ss : Stars) (qs : Quals) (n : Name) → Fine DeclaratorTree true 2 false (pointed t d ss qs n)
+by_pointed : {limit : ℕ} (t : Types) (d : ℕ) (ss : Stars) (qs : Quals) (n : Name) → Fine DeclaratorTree true limit false (pointed t d ss qs n)
 by_pointed t d ss qs n = fine_call refl (λ xs. fine_expect k.CloseParen tt (fine_expect k.OpenParen tt (fine_call refl (λ ps. fine_done))))
 
-by_declarator : (t : Types) (d : ℕ) (f : Bool) (ns : List Name) (ss : Stars) (e : Kind) → Fine DeclaratorTree false 2 true (declarator_by t d f ns ss e)
-by_declarator t d f ns ss k.Name = fine_take (λ n. fine_look fine_done (by_declared t d f ss n))
-by_declarator t d f ns ss k.OpenParen = fine_take (λ m. fine_expect k.Star tt (fine_call refl (λ qs. fine_name [] (λ n. by_pointed t d ss qs n))))
-by_declarator t d f ns ss _ = fine_stop
+pub by_declarator : {free : Bool} {limit : ℕ} (t : Types) (d : ℕ) (f y : Bool) (ss : Stars) (e : Kind) → Fine DeclaratorTree free limit true (declarator_by t d f y ss e)
+by_declarator t d f y ss k.Name = fine_take (λ n. fine_look fine_done (by_declared (inside y n t) d f ss n))
+by_declarator t d f y ss k.OpenParen = fine_take (λ m. fine_expect k.Star tt (fine_call refl (λ qs. fine_name [] (λ n. by_pointed (inside y n t) d ss qs n))))
+by_declarator t d f y ss _ = fine_stop
 
 by_size : (t : Types) (d : ℕ) (e : Kind) → Fine Sizes true 1 true (size_by t d e)
 by_size t d k.CloseBracket = fine_take (λ n. fine_call refl (λ xs. fine_done))
@@ -95,8 +95,8 @@ stars_fine = fine_look fine_done by_stars
 pub quals_fine : IsFine all_quals
 quals_fine = fine_look fine_done by_quals
 
-pub declarator_fine : (t : Types) (d : ℕ) (f : Bool) (ns : List Name) → IsFine (a_declarator t d f ns)
-declarator_fine t d f ns = fine_call refl (λ ss. fine_look fine_stop (by_declarator t d f ns ss))
+pub declarator_fine : (t : Types) (d : ℕ) (f y : Bool) → IsFine (a_declarator t d f y)
+declarator_fine t d f y = fine_call refl (λ ss. fine_look fine_stop (by_declarator t d f y ss))
 
 pub sizes_fine : (t : Types) (d : ℕ) → IsFine (all_sizes t d)
 sizes_fine t d = fine_look fine_done (by_sizes t d)

@@ -6,18 +6,18 @@ use Rattle.c_grammar.specs.declared.kind.Kind.{Kind}
 use Rattle.c_grammar.specs.declared.kind.Kind.TheVariants as k
 use Rattle.c_grammar.specs.Body.{done, stop, spend, call}
 use Rattle.c_grammar.specs.Rules.{Types, begins_type, Start, no_specifier, a_qualifier, a_type_word, a_type_name, a_struct_word, an_enum_word, start_of, ends_type, specifiers_by, struct_body_by, struct_by, more_members_by, more_declarators_by, enum_body_by, enum_by, enumerator_by, next_enumerator_by, more_enumerators_by, a_type, all_specifiers, a_struct, all_members, more_members, all_declarators, more_declarators, an_enum, all_enumerators, more_enumerators}
-use Rattle.c_grammar.proofs.Performs.{Fine, IsFine, fine_done, fine_stop, fine_look, fine_spend, fine_call, fine_if, fine_take, fine_expect, fine_name}
+use Rattle.c_grammar.proofs.Performs.{Fine, IsFine, fine_done, fine_stop, fine_look, fine_spend, fine_call, fine_if, fine_take, fine_expect, fine_name, fine_naming}
 
 at_end : {free seen : Bool} {limit : ℕ} (ws : List TypeWord) → Fine Specifiers free limit seen (ends_type ws)
 at_end ws = fine_if _ fine_done fine_stop
 
-by_start : (t : Types) (d : ℕ) (ws : List TypeWord) (s : Start) → Fine Specifiers false 1 true (specifiers_by t d ws s)
-by_start t d ws no_specifier = at_end ws
-by_start t d ws (a_qualifier x) = fine_take (λ n. fine_call refl (λ xs. fine_done))
-by_start t d ws (a_type_word w x) = fine_if _ (fine_take (λ n. fine_call refl (λ xs. fine_done))) (at_end ws)
-by_start t d ws a_type_name = fine_if _ (fine_take (λ n. fine_call refl (λ xs. fine_done))) (at_end ws)
-by_start t d ws a_struct_word = fine_if _ (fine_take (λ n. fine_call refl (λ x. fine_call refl (λ xs. fine_done)))) (at_end ws)
-by_start t d ws an_enum_word = fine_if _ (fine_take (λ n. fine_call refl (λ x. fine_call refl (λ xs. fine_done)))) (at_end ws)
+by_start : (t : Types) (d : ℕ) (b : Bool) (ws : List TypeWord) (s : Start) → Fine Specifiers false 1 true (specifiers_by t d b ws s)
+by_start t d b ws no_specifier = at_end ws
+by_start t d b ws (a_qualifier x) = fine_take (λ n. fine_call refl (λ xs. fine_done))
+by_start t d b ws (a_type_word w x) = fine_if _ (fine_naming b d (fine_take (λ n. fine_call refl (λ xs. fine_done)))) (at_end ws)
+by_start t d b ws a_type_name = fine_if _ (fine_naming b d (fine_take (λ n. fine_call refl (λ xs. fine_done)))) (at_end ws)
+by_start t d b ws a_struct_word = fine_if _ (fine_take (λ n. fine_call refl (λ x. fine_call refl (λ xs. fine_done)))) (at_end ws)
+by_start t d b ws an_enum_word = fine_if _ (fine_take (λ n. fine_call refl (λ x. fine_call refl (λ xs. fine_done)))) (at_end ws)
 
 by_struct_body : (t : Types) (d : ℕ) (n : Name) (e : Kind) → Fine Specifier true 1 true (struct_body_by t d n e)
 by_struct_body t d n k.OpenBrace = fine_spend (fine_take (λ m. fine_call refl (λ ms. fine_done)))
@@ -65,8 +65,8 @@ by_more_enumerators t d _ = fine_stop
 pub type_fine : (t : Types) (d : ℕ) → IsFine (a_type t d)
 type_fine t d = fine_call refl (λ ws. fine_call refl (λ x. fine_done))
 
-pub specifiers_fine : (t : Types) (d : ℕ) (ws : List TypeWord) → IsFine (all_specifiers t d ws)
-specifiers_fine t d ws = fine_look (at_end ws) (λ e. by_start t d ws (start_of e))
+pub specifiers_fine : (t : Types) (d : ℕ) (b : Bool) (ws : List TypeWord) → IsFine (all_specifiers t d b ws)
+specifiers_fine t d b ws = fine_look (at_end ws) (λ e. by_start t d b ws (start_of e))
 
 pub struct_fine : (t : Types) (d : ℕ) → IsFine (a_struct t d)
 struct_fine t d = fine_look fine_stop (by_struct t d)

@@ -16,6 +16,7 @@ use Rattle.c_grammar.proofs.Parse.{bounded}
 use Rattle.c_grammar.proofs.Conditions.{all_go}
 use Rattle.c_grammar.proofs.Sure.{holds_got}
 use Rattle.c_grammar.proofs.Read.{Read}
+use Rattle.c_grammar.proofs.Declares.{Yields}
 use Rattle.c_grammar.proofs.Costs.{Costs}
 use Rattle.c_grammar.proofs.Limits.{limited_free, limited_free-refused, limited_counted, free_counted, within_limits, Fits-fits}
 use Rattle.c_grammar.proofs.Local.{refused_early, exceeded_early}
@@ -63,7 +64,7 @@ found ts us xs m e =
     let e' : limited_read ts ≡ got xs us m = sym (opened ts) ∙ e in
     let freely = limited_free Rule Result rank rule top whole ts (record { made = 1; peak = 1 }) xs us m e' in
     let counting = limited_counted Rule Result rank rule top whole ts (record { made = 1; peak = 1 }) xs us m e' in
-    let s : Read whole ts tt xs us tt = holds_got (Read whole ts tt) (free_read ts) xs us tt (all_go (Unit {0}) free Read (λ r vs x. all_sound r vs) whole ts tt) freely in
+    let s : Read whole ts tt xs us tt = (holds_got (Yields whole ts tt) (free_read ts) xs us tt (all_go (Unit {0}) free Yields (λ r vs x. all_sound r vs) whole ts tt) freely).0 in
     let c : Costs whole ts (record { made = 1; peak = 1 }) xs us m =
     holds_got (Costs whole ts (record { made = 1; peak = 1 })) (reads Rule Result rank rule Meter counted top whole ts (record { made = 1; peak = 1 })) xs us m
     (all_go Meter counted Costs all_cost whole ts (record { made = 1; peak = 1 })) counting in

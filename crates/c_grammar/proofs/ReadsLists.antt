@@ -8,7 +8,7 @@ use Rattle.c_grammar.specs.declared.kind.Kind.{Kind}
 use Rattle.c_grammar.specs.declared.kind.Kind.TheVariants as k
 use Rattle.c_grammar.specs.Kind.{kind}
 use Rattle.c_grammar.specs.Body.{got, done}
-use Rattle.c_grammar.specs.Rules.{Types, arguments_by, sizes_by, size_by, at_most_one_by, one_size_by, enumerator_by, an_expression, all_arguments, more_arguments, all_sizes, at_most_one_size, all_enumerators, more_enumerators}
+use Rattle.c_grammar.specs.Rules.{Types, barred, arguments_by, sizes_by, size_by, at_most_one_by, one_size_by, enumerator_by, an_expression, all_arguments, more_arguments, all_sizes, at_most_one_size, all_enumerators, more_enumerators}
 use Rattle.c_grammar.proofs.Onto.{onto_expression, onto_more, onto_sizes, onto_enumerators, onto_more_enumerators, onto_trailing}
 use Rattle.c_grammar.proofs.Parse.{parse}
 use Rattle.c_grammar.proofs.KindLemmas.{kind_at, kind_name}
@@ -61,7 +61,7 @@ module _ (t : Types) where
   }
 
   -- arguments are read
-  pub expressions_reads : (x : Expression) (xs : Expressions) → 2 ≤ level x → ShapeExpression t x → ReadsExpression t x → ReadsArguments t xs → ReadsArguments t (expressions x xs)
+  pub expressions_reads : (x : Expression) (xs : Expressions) → 2 ≤ level x → ShapeExpression t.names x → ReadsExpression t x → ReadsArguments t xs → ReadsArguments t (expressions x xs)
   expressions_reads x xs xl s hx hxs = record {
     all = λ d r.
         let us = onto_more xs (mark (codes ")") ∷ r) in
@@ -107,7 +107,7 @@ module _ (t : Types) where
       let w : weight (mark (codes "]") ∷ us) ≡ 0 = weight_at k.CloseBracket [] us tt in
       expression_read t d 3 1 x (mark (codes "]") ∷ us) hx (omega arith) (omega arith) xl (omega arith)
 
-  size_one : (x : Expression) (xs : Sizes) (d : ℕ) (r : Tokens) → 3 ≤ level x → ShapeExpression t x → ReadsExpression t x → AtMostOne (size x xs) → parse (at_most_one_size t d) (onto_sizes (size x xs) r) ≡ got (size x xs) r tt
+  size_one : (x : Expression) (xs : Sizes) (d : ℕ) (r : Tokens) → 3 ≤ level x → ShapeExpression t.names x → ReadsExpression t x → AtMostOne (size x xs) → parse (at_most_one_size t d) (onto_sizes (size x xs) r) ≡ got (size x xs) r tt
   size_one x no_sizes d r xl s hx few =
       ran (at_most_one_size t d) _ (got (size x no_sizes) r tt)
       (run_at k.OpenBracket tt (run_take (run_seen (some_one_size t d _ (operand_not _ k.CloseBracket (expression_head t x _ s) refl))
@@ -116,7 +116,7 @@ module _ (t : Types) where
   size_one x (size y xs) d r xl s hx few = absurd few
 
   -- a size is read
-  pub size_reads : (x : Expression) (xs : Sizes) → 3 ≤ level x → ShapeExpression t x → ReadsExpression t x → ReadsSizes t xs → ReadsSizes t (size x xs)
+  pub size_reads : (x : Expression) (xs : Sizes) → 3 ≤ level x → ShapeExpression t.names x → ReadsExpression t x → ReadsSizes t xs → ReadsSizes t (size x xs)
   size_reads x xs xl s hx hxs = record {
     all = λ d r ends. ran (all_sizes t d) _ (got (size x xs) r tt)
         (run_at k.OpenBracket tt (run_take (run_seen (some_size t d _ (operand_not _ k.CloseBracket (expression_head t x _ s) refl))
@@ -152,13 +152,13 @@ module _ (t : Types) where
       none d false r = ran (more_enumerators t d) _ (got (no_enumerators, false) r tt) (run_at k.CloseBrace tt (run_take (run_done refl)))
 
   -- behind a comma
-  further : (d : ℕ) (n : Name) (us : Tokens) (es : Enumerators × Bool) (r : Tokens) → IsOrdinary t n → parse (all_enumerators t d) (name_token n ∷ us) ≡ got es r tt →
+  further : (d : ℕ) (n : Name) (us : Tokens) (es : Enumerators × Bool) (r : Tokens) → IsOrdinary (barred t) n → parse (all_enumerators t d) (name_token n ∷ us) ≡ got es r tt →
       parse (more_enumerators t d) (mark (codes ",") ∷ name_token n ∷ us) ≡ got es r tt
   further d n us es r new h =
-      ran (more_enumerators t d) _ (got es r tt) (run_at k.Comma tt (run_take (run_look k.Name (kind_name t n us new) (run_spend (run_call refl h (run_done refl))))))
+      ran (more_enumerators t d) _ (got es r tt) (run_at k.Comma tt (run_take (run_look k.Name (kind_name (barred t) n us new) (run_spend (run_call refl h (run_done refl))))))
 
   -- an enumerator is read
-  pub enumerator_reads : (n : Name) (es : Enumerators) → IsOrdinary t n → ReadsEnumerators t es → ReadsEnumerators t (enumerator n es)
+  pub enumerator_reads : (n : Name) (es : Enumerators) → IsOrdinary (barred t) n → ReadsEnumerators t es → ReadsEnumerators t (enumerator n es)
   enumerator_reads n es new h =
       let all : (d : ℕ) (c : Bool) (r : Tokens) → parse (all_enumerators t d) (onto_enumerators (enumerator n es) (onto_trailing c (mark (codes "}") ∷ r))) ≡ got (enumerator n es, c) r tt =
       λ d c r. ran (all_enumerators t d) _ (got (enumerator n es, c) r tt)
@@ -166,7 +166,7 @@ module _ (t : Types) where
       record { all = λ d c r some. all d c r; more = λ d c r. further d n _ _ r new (all d c r) }
 
   -- an enumerator with its value is read
-  pub enumerator_with_reads : (n : Name) (x : Expression) (es : Enumerators) → IsOrdinary t n → 3 ≤ level x → ReadsExpression t x → ReadsEnumerators t es → ReadsEnumerators t (enumerator_with n x es)
+  pub enumerator_with_reads : (n : Name) (x : Expression) (es : Enumerators) → IsOrdinary (barred t) n → 3 ≤ level x → ReadsExpression t x → ReadsEnumerators t es → ReadsEnumerators t (enumerator_with n x es)
   enumerator_with_reads n x es new xl hx h =
       let all : (d : ℕ) (c : Bool) (r : Tokens) → parse (all_enumerators t d) (onto_enumerators (enumerator_with n x es) (onto_trailing c (mark (codes "}") ∷ r))) ≡ got (enumerator_with n x es, c) r tt =
       λ d c r.

@@ -39,7 +39,7 @@ module _ (t : Types) where
         let us = mark (codes ")") ∷ r in
         let e : kind [] us ≡ k.CloseParen = kind_at [] k.CloseParen [] r tt in
         ran (a_type t d) _ (got (typed ws b) us tt)
-        (run_call refl (hws.all d [] (onto_bare b us) one (type_ends_bare t b us (inr e))) (run_call refl (hb.all d us (inr e)) (run_done refl)));
+        (run_call refl (hws.all d false [] (onto_bare b us) one (type_ends_bare t b us (inr e))) (run_call refl (hb.all d us (inr e)) (run_done refl)));
   }
 
   -- the end of declarators is read
@@ -50,15 +50,15 @@ module _ (t : Types) where
   }
 
   -- declarators are read
-  pub declarators_reads : (c : DeclaratorTree) (cs : Declarators) → IsNoFunction c → ReadsDeclarator t c → ReadsDeclarators t cs → ReadsDeclarators t (declarators c cs)
+  pub declarators_reads : (c : DeclaratorTree) (cs : Declarators) → IsNoFunction c → ReadsDeclarator t false c → ReadsDeclarators t cs → ReadsDeclarators t (declarators c cs)
   declarators_reads c cs object hc hcs = record {
     all = λ d r some.
         ran (all_declarators t d) _ (got (declarators c cs) (mark (codes ";") ∷ r) tt)
-        (run_call refl (hc.all (d + 1) false [] _ (λ e. object) refl (declarators_end cs r)) (run_call refl (hcs.more d r) (run_done refl)));
+        (run_call refl (hc.all (d + 1) false _ (λ e. object) (declarators_end cs r)) (run_call refl (hcs.more d r) (run_done refl)));
     more = λ d r.
         ran (more_declarators t d) _ (got (declarators c cs) (mark (codes ";") ∷ r) tt)
         (run_at k.Comma tt (run_spend (run_take
-        (run_call refl (hc.all (d + 1) false [] _ (λ e. object) refl (declarators_end cs r)) (run_call refl (hcs.more d r) (run_done refl))))));
+        (run_call refl (hc.all (d + 1) false _ (λ e. object) (declarators_end cs r)) (run_call refl (hcs.more d r) (run_done refl))))));
   }
 
   -- the end of members is read
@@ -69,17 +69,17 @@ module _ (t : Types) where
   }
 
   -- the declarators of a member end its specifiers
-  type_ends_declarators : (cs : Declarators) (r : Tokens) → HasDeclarator cs → ShapeDeclarators t cs → EndsType t (onto_declarators cs r)
+  type_ends_declarators : (cs : Declarators) (r : Tokens) → HasDeclarator cs → ShapeDeclarators t.names cs → EndsType t (onto_declarators cs r)
   type_ends_declarators no_declarators r some s = absurd some
-  type_ends_declarators (declarators c cs) r some s = type_ends_declarator t c _ (declares_ordinary t c s.1)
+  type_ends_declarators (declarators c cs) r some s = type_ends_declarator t c _ (declares_ordinary t.names c s.1)
 
   -- a member is read
-  pub member_reads : (ws : Specifiers) (cs : Declarators) (ms : Members) → NamesType ws → HasDeclarator cs → ShapeDeclarators t cs → ((us : Tokens) → begins_type (kind t (onto_specifiers ws us)) ≡ true) →
+  pub member_reads : (ws : Specifiers) (cs : Declarators) (ms : Members) → NamesType ws → HasDeclarator cs → ShapeDeclarators t.names cs → ((us : Tokens) → begins_type (kind t.names (onto_specifiers ws us)) ≡ true) →
       ReadsSpecifiers t ws → ReadsDeclarators t cs → ReadsMembers t ms → ReadsMembers t (member ws cs ms)
   member_reads ws cs ms one some s begins hws hcs hms =
       let all : (d : ℕ) (r : Tokens) → parse (all_members t d) (onto_members (member ws cs ms) (mark (codes "}") ∷ r)) ≡ got (member ws cs ms) r tt =
       λ d r. ran (all_members t d) _ (got (member ws cs ms) r tt)
-      (run_call refl (hws.all d [] _ one (type_ends_declarators cs _ some s))
+      (run_call refl (hws.all d false [] _ one (type_ends_declarators cs _ some s))
       (run_call refl (hcs.all d _ some)
       (run_expect k.Semicolon tt (run_call refl (hms.more d r) (run_done refl))))) in
       record {

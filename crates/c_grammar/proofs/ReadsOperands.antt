@@ -19,25 +19,25 @@ use Rattle.c_grammar.proofs.ReadsTree.{ReadsExpression}
 -- nothing goes on with what binds less
 pub rest_stops : (t : Types) (d l : ℕ) (x : Expression) (r : Tokens) → weight r < l → parse (a_rest t d l x) r ≡ got x r tt
 rest_stops t d l x r ends =
-    let i = infix_of (kind t r) in
-    let few : own_level i < l = omega (arith, infix_weighs t r) in
+    let i = infix_of (kind t.names r) in
+    let few : own_level i < l = omega (arith, infix_weighs t.names r) in
     let no : nat_le l (own_level i) ≡ false = grind (arith, nat_tests) in
     ran (a_rest t d l x) r (got x r tt)
     (run_seen (cond-false (goes_on l i (level x)) (longer t d l x i) (done x) (and_left (nat_le l (own_level i)) (nat_le (left_level i) (level x)) no)) (run_done refl))
 
 -- an expression goes on with an operator that binds as much as is asked, and takes what stands before it
-pub rest_goes : (t : Types) (d l : ℕ) (x : Expression) (ts : Tokens) (o : Outcome (Unit {0}) Expression) (e : Kind) (i : Infix) → kind t ts ≡ e → infix_of e ≡ i → l ≤ own_level i → left_level i ≤ level x →
+pub rest_goes : (t : Types) (d l : ℕ) (x : Expression) (ts : Tokens) (o : Outcome (Unit {0}) Expression) (e : Kind) (i : Infix) → kind t.names ts ≡ e → infix_of e ≡ i → l ≤ own_level i → left_level i ≤ level x →
     Runs false 1 (longer t d l x i) ts o → parse (a_rest t d l x) ts ≡ o
 rest_goes t d l x ts o e i is of least left h =
     let go : nat_le l (own_level i) ≡ true = grind (arith, nat_tests) in
     let takes : nat_le (left_level i) (level x) ≡ true = grind (arith, nat_tests) in
-    let same : infix_of (kind t ts) ≡ i = ap infix_of is ∙ of in
+    let same : infix_of (kind t.names ts) ≡ i = ap infix_of is ∙ of in
     let f : Infix → Reads Expression = λ j. cond (goes_on l j (level x)) (longer t d l x j) (done x) in
     ran (a_rest t d l x) ts o
     (run_seen (ap f same ∙ cond-true (goes_on l i (level x)) (longer t d l x i) (done x) (and_from (nat_le l (own_level i)) (nat_le (left_level i) (level x)) go takes)) h)
 
 -- the first operand, by its first token
-pub prefix_reads : (t : Types) (d l o : ℕ) (ts : Tokens) (x : Expression) (r : Tokens) (e : Kind) (i : First) → kind t ts ≡ e → first_of_operand e ≡ i → Runs false 1 (prefix_by t d l o i) ts (got x r tt) →
+pub prefix_reads : (t : Types) (d l o : ℕ) (ts : Tokens) (x : Expression) (r : Tokens) (e : Kind) (i : First) → kind t.names ts ≡ e → first_of_operand e ≡ i → Runs false 1 (prefix_by t d l o i) ts (got x r tt) →
     parse (a_whole t d l o) ts ≡ parse (a_rest t d l x) r
 prefix_reads t d l o ts x r e i is of h =
     let f : First → Reads Expression = λ j. prefix_by t d l o j in

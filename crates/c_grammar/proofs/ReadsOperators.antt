@@ -26,7 +26,7 @@ module _ (t : Types) where
         let us = mark (codes ",") ∷ onto_expression y r in
         let w : weight us ≡ 1 = weight_at k.Comma [] (onto_expression y r) tt in
         hx.whole d l o us some few (omega arith) (omega (arith, ceiling_low x xl))
-        ∙ rest_goes t d l x us _ k.Comma a_comma (kind_at t k.Comma [] _ tt) refl fits xl
+        ∙ rest_goes t d l x us _ k.Comma a_comma (kind_at t.names k.Comma [] _ tt) refl fits xl
         (run_rise (run_spend (run_take (run_call refl (expression_read t (d + 1) 2 0 y r hy (omega arith) (omega arith) yl (omega arith)) (run_rest refl refl)))));
   }
 
@@ -37,7 +37,7 @@ module _ (t : Types) where
         let us = mark (assign_text a) ∷ onto_expression y r in
         let w : weight us ≡ 2 = assignment_weighs a (onto_expression y r) in
         hx.whole d l o us some few (omega arith) (omega (arith, ceiling_high x (omega arith)))
-        ∙ rest_goes t d l x us _ (assignment_kind a) (an_assign a) (kind_assignment t a _) (infix_assignment a) fits xl
+        ∙ rest_goes t d l x us _ (assignment_kind a) (an_assign a) (kind_assignment t.names a _) (infix_assignment a) fits xl
         (run_rise (run_spend (run_take (run_call refl (expression_read t (d + 1) 2 0 y r hy (omega arith) (omega arith) yl (omega arith)) (run_rest refl refl)))));
   }
 
@@ -50,7 +50,7 @@ module _ (t : Types) where
         let w : weight us ≡ 3 = weight_at k.Question [] (onto_expression y vs) tt in
         let v : weight vs ≡ 0 = weight_at k.Colon [] (onto_expression z r) tt in
         hx.whole d l o us some few (omega arith) (omega (arith, ceiling_high x xl))
-        ∙ rest_goes t d l x us _ k.Question a_question (kind_at t k.Question [] _ tt) refl fits xl
+        ∙ rest_goes t d l x us _ k.Question a_question (kind_at t.names k.Question [] _ tt) refl fits xl
         (run_rise (run_spend (run_take
         (run_call refl (expression_read t (d + 1) 1 0 y vs hy (omega arith) (omega arith) yl (omega arith))
         (run_expect k.Colon tt
@@ -66,7 +66,7 @@ module _ (t : Types) where
         let low : 4 ≤ op_level b = operator_least b in
         let high : op_level b ≤ 13 = operator_most b in
         hx.whole d l o us some few (omega arith) (omega (arith, ceiling_high x (omega arith)))
-        ∙ rest_goes t d l x us _ (operator_kind b) (an_operator b) (kind_operator t b _) (infix_operator b) fits xl
+        ∙ rest_goes t d l x us _ (operator_kind b) (an_operator b) (kind_operator t.names b _) (infix_operator b) fits xl
         (run_rise (run_spend (run_take (run_call refl (expression_read t (d + 1) (suc (op_level b)) 0 y r hy (omega arith) (omega arith) yl (omega arith)) (run_rest refl refl)))));
   }
 
@@ -79,7 +79,7 @@ module _ (t : Types) where
         let w : weight us ≡ 16 = weight_at k.OpenBracket [] (onto_expression y vs) tt in
         let v : weight vs ≡ 0 = weight_at k.CloseBracket [] r tt in
         hx.whole d l o us some few (omega arith) (omega (arith, ceiling_high x (omega arith)))
-        ∙ rest_goes t d l x us _ k.OpenBracket an_index (kind_at t k.OpenBracket [] _ tt) refl fits xl
+        ∙ rest_goes t d l x us _ k.OpenBracket an_index (kind_at t.names k.OpenBracket [] _ tt) refl fits xl
         (run_rise (run_spend (run_take
         (run_call refl (expression_read t (d + 1) 1 0 y vs hy (omega arith) (omega arith) yl (omega arith))
         (run_expect k.CloseBracket tt (run_rest refl refl))))));
@@ -93,27 +93,27 @@ module _ (t : Types) where
         let us = mark (codes "(") ∷ onto_arguments xs vs in
         let w : weight us ≡ 16 = weight_at k.OpenParen [] (onto_arguments xs vs) tt in
         hx.whole d l o us some few (omega arith) (omega (arith, ceiling_high x (omega arith)))
-        ∙ rest_goes t d l x us _ k.OpenParen a_call (kind_at t k.OpenParen [] _ tt) refl fits xl
+        ∙ rest_goes t d l x us _ k.OpenParen a_call (kind_at t.names k.OpenParen [] _ tt) refl fits xl
         (run_rise (run_spend (run_take (run_call refl (hy.all (d + 1) r) (run_rest refl refl)))));
   }
 
   -- a member is read
-  pub dot_reads : (x : Expression) (n : Name) → 16 ≤ level x → IsOrdinary t n → ReadsExpression t x → ReadsExpression t (dot x n)
+  pub dot_reads : (x : Expression) (n : Name) → 16 ≤ level x → IsOrdinary t.names n → ReadsExpression t x → ReadsExpression t (dot x n)
   dot_reads x n xl new hx = record {
     whole = λ d l o r some few fits ends.
         let w : weight _ ≡ 16 = weight_at k.Dot [] (token_of k.Name n ∷ r) tt in
         hx.whole d l o _ some few (omega arith) (omega (arith, ceiling_high x (omega arith)))
-        ∙ rest_goes t d l x _ _ k.Dot a_dot (kind_at t k.Dot [] _ tt) refl fits xl
+        ∙ rest_goes t d l x _ _ k.Dot a_dot (kind_at t.names k.Dot [] _ tt) refl fits xl
         (run_rise (run_spend (run_take (run_name new (run_rest refl refl)))));
   }
 
   -- a member behind a pointer is read
-  pub arrow_reads : (x : Expression) (n : Name) → 16 ≤ level x → IsOrdinary t n → ReadsExpression t x → ReadsExpression t (arrow x n)
+  pub arrow_reads : (x : Expression) (n : Name) → 16 ≤ level x → IsOrdinary t.names n → ReadsExpression t x → ReadsExpression t (arrow x n)
   arrow_reads x n xl new hx = record {
     whole = λ d l o r some few fits ends.
         let w : weight _ ≡ 16 = weight_at k.Arrow [] (token_of k.Name n ∷ r) tt in
         hx.whole d l o _ some few (omega arith) (omega (arith, ceiling_high x (omega arith)))
-        ∙ rest_goes t d l x _ _ k.Arrow an_arrow (kind_at t k.Arrow [] _ tt) refl fits xl
+        ∙ rest_goes t d l x _ _ k.Arrow an_arrow (kind_at t.names k.Arrow [] _ tt) refl fits xl
         (run_rise (run_spend (run_take (run_name new (run_rest refl refl)))));
   }
 
@@ -123,6 +123,6 @@ module _ (t : Types) where
     whole = λ d l o r some few fits ends.
         let w : weight (mark (step_text s) ∷ r) ≡ 16 = step_weighs s r in
         hx.whole d l o _ some few (omega arith) (omega (arith, ceiling_high x (omega arith)))
-        ∙ rest_goes t d l x _ _ (step_kind s) (a_step_behind s) (kind_step t s _) (infix_step s) fits xl
+        ∙ rest_goes t d l x _ _ (step_kind s) (a_step_behind s) (kind_step t.names s _) (infix_step s) fits xl
         (run_rise (run_spend (run_take (run_rest refl refl))));
   }

@@ -7,13 +7,13 @@ use Rattle.c_tree.specs.ExpressionShape.{FitsWord, IsNotVoid, IsNoFunction, Shap
 use Rattle.c_grammar.specs.declared.kind.Kind.{Kind}
 use Rattle.c_grammar.specs.declared.kind.Kind.TheVariants as k
 use Rattle.c_grammar.specs.Body.{got}
-use Rattle.c_grammar.specs.Rules.{Types, begins_type, parameters_by, listed_parameters, all_parameters, some_parameters, more_parameters, a_parameter, a_bare}
+use Rattle.c_grammar.specs.Rules.{Types, barred, begins_type, parameters_by, listed_parameters, all_parameters, some_parameters, more_parameters, a_parameter, a_bare}
 use Rattle.c_grammar.proofs.Onto.{onto_specifiers, onto_form, onto_parameters, onto_more_parameters}
 use Rattle.c_grammar.proofs.Parse.{parse}
 use Rattle.c_grammar.proofs.KindLemmas.{kind_at, kind_same}
 use Rattle.c_grammar.proofs.TypeHeads.{specifiers_head}
 use Rattle.c_grammar.proofs.Runs.{ran, run_done, run_look, run_seen, run_at, run_take, run_call, run_scope, run_expect}
-use Rattle.c_grammar.proofs.ReadsTree.{EndsType, EndsForm, ReadsSpecifiers, ReadsDeclarator, ReadsParameters, ReadsForm, ReadsBare}
+use Rattle.c_grammar.proofs.ReadsTree.{EndsType, EndsForm, ReadsSpecifiers, ReadsNamed, ReadsParameters, ReadsForm, ReadsBare}
 use Rattle.c_grammar.proofs.ReadsWords.{no_specifiers_reads, specifiers_reads, void_reads}
 use Rattle.c_grammar.proofs.ReadsStars.{quals_read, stars_read, stars_end_at, stars_end_form, type_ends_bare, type_ends_declarator, declares_ordinary}
 
@@ -36,8 +36,8 @@ form_ends no_parameters r = inr (kind_at [] k.CloseParen [] r tt)
 form_ends (parameters ws f ps) r = inl (kind_at [] k.Comma [] _ tt)
 
 module _ (t : Types) where
-  type_ends_parameter : (f : ParameterForm) (r : Tokens) → ShapeForm t f → EndsForm r → EndsType t (onto_form f r)
-  type_ends_parameter (named_form c) r s ends = type_ends_declarator t c r (declares_ordinary t c s.1)
+  type_ends_parameter : (f : ParameterForm) (r : Tokens) → ShapeForm t.names f → EndsForm r → EndsType t (onto_form f r)
+  type_ends_parameter (named_form c) r s ends = type_ends_declarator t c r (declares_ordinary t.names c s.1)
   type_ends_parameter (bare_form b) r s ends = type_ends_bare t b r ends
 
   -- the end of parameters is read
@@ -48,14 +48,14 @@ module _ (t : Types) where
   }
 
   -- parameters are read
-  pub parameters_reads : (ws : Specifiers) (f : ParameterForm) (ps : Parameters) → NamesType ws → ShapeForm t f → ReadsSpecifiers t ws → ReadsForm t f → ReadsParameters t ps → ReadsParameters t (parameters ws f ps)
+  pub parameters_reads : (ws : Specifiers) (f : ParameterForm) (ps : Parameters) → NamesType ws → ShapeForm t.names f → ReadsSpecifiers t ws → ReadsForm t f → ReadsParameters t ps → ReadsParameters t (parameters ws f ps)
   parameters_reads ws f ps one s hws hf hps =
       let some : (d : ℕ) (r : Tokens) → parse (some_parameters t d) (onto_parameters (parameters ws f ps) false (mark (codes ")") ∷ r)) ≡ got (parameters ws f ps) r tt =
       λ d r.
       let us = onto_more_parameters ps (mark (codes ")") ∷ r) in
       let ends : EndsForm us = form_ends ps r in
       let first : parse (a_parameter t d) (onto_specifiers ws (onto_form f us)) ≡ got (ws, f) us tt =
-      ran (a_parameter t d) _ (got (ws, f) us tt) (run_call refl (hws.all d [] (onto_form f us) one (type_ends_parameter f us s ends)) (hf.all d ws us ends)) in
+      ran (a_parameter t d) _ (got (ws, f) us tt) (run_call refl (hws.all d false [] (onto_form f us) one (type_ends_parameter f us s ends)) (hf.all d ws us ends)) in
       ran (some_parameters t d) _ (got (parameters ws f ps) r tt) (run_scope refl first (run_call refl (hps.more d r) (run_done refl))) in
       record {
         some = λ d r _. some d r;
@@ -63,7 +63,7 @@ module _ (t : Types) where
       }
 
   -- a parameter with a name is read
-  pub named_form_reads : (c : DeclaratorTree) → IsNoFunction c → ReadsDeclarator t c → ReadsForm t (named_form c)
+  pub named_form_reads : (c : DeclaratorTree) → IsNoFunction c → ReadsNamed t c → ReadsForm t (named_form c)
   named_form_reads c object hc = record { all = λ d ws r ends. hc.parameter d ws r object ends }
 
   -- a parameter without a name is read
@@ -77,7 +77,7 @@ module _ (t : Types) where
         (run_call refl (stars_read ss r (stars_end_form r ends)) (elim ends [ inl e ↦ run_look k.Comma e (run_done refl) | inr e ↦ run_look k.CloseParen e (run_done refl) ]));
     parameter = λ d ws r ends.
         run_call refl (stars_read ss r (stars_end_form r ends))
-        (elim ends [ inl e ↦ run_look k.Comma (kind_same [] t r k.Comma tt e) (run_done refl) | inr e ↦ run_look k.CloseParen (kind_same [] t r k.CloseParen tt e) (run_done refl) ]);
+        (elim ends [ inl e ↦ run_look k.Comma (kind_same [] (barred t) r k.Comma tt e) (run_done refl) | inr e ↦ run_look k.CloseParen (kind_same [] (barred t) r k.CloseParen tt e) (run_done refl) ]);
   }
 
   -- a pointer to a function without a name is read
@@ -101,7 +101,7 @@ module _ (t : Types) where
       (bare_form_reads (bare_stars []) (bare_stars_reads [])) no_parameters_reads
 
   -- all parameters of a function, with its bracket
-  pub list_read : (ps : Parameters) (v : Bool) → FitsWord v ps → IsNotVoid ps → ShapeParameters t ps → ReadsParameters t ps → ReadsList t ps v
+  pub list_read : (ps : Parameters) (v : Bool) → FitsWord v ps → IsNotVoid ps → ShapeParameters t.names ps → ReadsParameters t ps → ReadsList t ps v
   list_read no_parameters false fits some s h d r = ran (all_parameters t d) _ (got (no_parameters, false) r tt) (run_at k.CloseParen tt (run_take (run_done refl)))
   list_read no_parameters true fits some s h d r =
       ran (all_parameters t d) _ (got (no_parameters, true) r tt) (run_at k.Void tt (run_call refl (only_void.some d r (λ e. cc)) (run_done refl)))

@@ -58,7 +58,7 @@ prefix_owed t d l o p ts (First.a_unary u) = refl
 whole_owed : (t : Types) (d l o p : ℕ) (ts : Tokens) → parse (a_whole t d l o) ts ≡ parse (a_whole t d l p) ts
 whole_owed t d l o p ts =
     let e : parse (a_prefix t d l o) ts ≡ parse (a_prefix t d l p) ts =
-    opening (a_prefix t d l o) ts ∙ prefix_owed t d l o p ts (first_of_operand (kind t ts)) ∙ sym (opening (a_prefix t d l p) ts) in
+    opening (a_prefix t d l o) ts ∙ prefix_owed t d l o p ts (first_of_operand (kind t.names ts)) ∙ sym (opening (a_prefix t d l p) ts) in
     opening (a_whole t d l o) ts
     ∙ ap (λ q. and_then q (λ x us y. exec_free false 2 (body.call (a_rest t d l x) (λ v. done v)) us)) e
     ∙ sym (opening (a_whole t d l p) ts)
@@ -86,12 +86,12 @@ opened_then t d (refused vs) = refl
 opened_then t d (exceeded vs) = refl
 
 -- what is read of a bracket behind sizeof is what is read of a unary expression that begins with the bracket
-opened_whole : (t : Types) (d o : ℕ) (us : Tokens) → begins_type (kind t us) ≡ false → parse (an_opened t d) us ≡ parse (a_whole t d 15 o) (mark (codes "(") ∷ us)
+opened_whole : (t : Types) (d o : ℕ) (us : Tokens) → begins_type (kind t.names us) ≡ false → parse (an_opened t d) us ≡ parse (a_whole t d 15 o) (mark (codes "(") ∷ us)
 opened_whole t d o us none =
     let q = parse (an_expression t (d + 1) 1 0) us in
     let p : parse (a_prefix t d 15 o) (mark (codes "(") ∷ us) ≡ and_then q (λ x vs y. exec_free true 1 (expect k.CloseParen (done (paren x))) vs) =
     ran (a_prefix t d 15 o) (mark (codes "(") ∷ us) (and_then q (λ x vs y. exec_free true 1 (expect k.CloseParen (done (paren x))) vs))
-    (run_at k.OpenParen tt (run_spend (run_take (run_seen (cond-false (begins_type (kind t us) && nat_le 15 14) _ _ (and_left (begins_type (kind t us)) (nat_le 15 14) none)) (record { runs = refl }))))) in
+    (run_at k.OpenParen tt (run_spend (run_take (run_seen (cond-false (begins_type (kind t.names us) && nat_le 15 14) _ _ (and_left (begins_type (kind t.names us)) (nat_le 15 14) none)) (record { runs = refl }))))) in
     opening (an_opened t d) us
     ∙ ap (λ q. and_then q (λ x vs y. exec_free false 4 (expect k.CloseParen (body.call (a_rest t d 15 (paren x)) (λ v. done v))) vs)) (expression_owed t (d + 1) 1 2 0 us)
     ∙ opened_then t d q
@@ -102,24 +102,24 @@ opened_whole t d o us none =
 
 module _ (t : Types) where
   -- a name is read
-  pub name_reads : (n : Name) → IsOrdinary t n → ReadsExpression t (name n)
+  pub name_reads : (n : Name) → IsOrdinary t.names n → ReadsExpression t (name n)
   name_reads n new = record {
     whole = λ d l o r some few fits ends.
-        prefix_reads t d l o _ (name n) r k.Name First.a_word (kind_name t n r new) refl (run_spend (run_take (run_done refl)));
+        prefix_reads t d l o _ (name n) r k.Name First.a_word (kind_name t.names n r new) refl (run_spend (run_take (run_done refl)));
   }
 
   -- an integer is read
   pub integer_reads : (n : Name) → ReadsExpression t (integer n)
   integer_reads n = record {
     whole = λ d l o r some few fits ends.
-        prefix_reads t d l o _ (integer n) r k.Integer First.a_number (kind_at t k.Integer n r tt) refl (run_spend (run_take (run_done refl)));
+        prefix_reads t d l o _ (integer n) r k.Integer First.a_number (kind_at t.names k.Integer n r tt) refl (run_spend (run_take (run_done refl)));
   }
 
   -- a character is read
   pub character_reads : (n : Name) → ReadsExpression t (character n)
   character_reads n = record {
     whole = λ d l o r some few fits ends.
-        prefix_reads t d l o _ (character n) r k.Character First.a_character (kind_at t k.Character n r tt) refl (run_spend (run_take (run_done refl)));
+        prefix_reads t d l o _ (character n) r k.Character First.a_character (kind_at t.names k.Character n r tt) refl (run_spend (run_take (run_done refl)));
   }
 
   -- string literals are read
@@ -127,30 +127,30 @@ module _ (t : Types) where
   text_reads [] long = absurd (omega arith)
   text_reads (n ∷ ns) long = record {
     whole = λ d l o r some few fits ends.
-        prefix_reads t d l o _ (text (n ∷ ns)) r k.Text First.a_text (kind_at t k.Text n _ tt) refl
+        prefix_reads t d l o _ (text (n ∷ ns)) r k.Text First.a_text (kind_at t.names k.Text n _ tt) refl
         (run_spend (run_take (run_call refl (texts_read ns r (no_text r ends)) (run_done refl))));
   }
 
   -- an expression in brackets is read
-  pub paren_reads : (x : Expression) → ShapeExpression t x → 1 ≤ level x → ReadsExpression t x → ReadsExpression t (paren x)
+  pub paren_reads : (x : Expression) → ShapeExpression t.names x → 1 ≤ level x → ReadsExpression t x → ReadsExpression t (paren x)
   paren_reads x s xl hx = record {
     whole = λ d l o r some few fits ends.
         let us = mark (codes ")") ∷ r in
         let w : weight us ≡ 0 = weight_at k.CloseParen [] r tt in
-        let none : begins_type (kind t (onto_expression x us)) ≡ false = operand_no_type _ (expression_head t x us s) in
-        prefix_reads t d l o _ (paren x) r k.OpenParen First.an_open (kind_at t k.OpenParen [] _ tt) refl
-        (run_spend (run_take (run_seen (cond-false (begins_type (kind t (onto_expression x us)) && nat_le l 14) _ _ (and_left _ (nat_le l 14) none))
+        let none : begins_type (kind t.names (onto_expression x us)) ≡ false = operand_no_type _ (expression_head t x us s) in
+        prefix_reads t d l o _ (paren x) r k.OpenParen First.an_open (kind_at t.names k.OpenParen [] _ tt) refl
+        (run_spend (run_take (run_seen (cond-false (begins_type (kind t.names (onto_expression x us)) && nat_le l 14) _ _ (and_left _ (nat_le l 14) none))
         (run_call refl (expression_read t (d + 1) 1 0 x us hx (omega arith) (omega arith) xl (omega arith)) (run_expect k.CloseParen tt (run_done refl))))));
   }
 
   -- a cast is read
-  pub cast_reads : (y : TypeTree) (x : Expression) → 14 ≤ level x → ((us : Tokens) → begins_type (kind t (onto_type y us)) ≡ true) → ReadsType t y → ReadsExpression t x → ReadsExpression t (cast y x)
+  pub cast_reads : (y : TypeTree) (x : Expression) → 14 ≤ level x → ((us : Tokens) → begins_type (kind t.names (onto_type y us)) ≡ true) → ReadsType t y → ReadsExpression t x → ReadsExpression t (cast y x)
   cast_reads y x xl begins hy hx = record {
     whole = λ d l o r some few fits ends.
         let us = mark (codes ")") ∷ onto_expression x r in
         let low : nat_le l 14 ≡ true = grind (arith, nat_tests) in
-        prefix_reads t d l o _ (cast y x) r k.OpenParen First.an_open (kind_at t k.OpenParen [] _ tt) refl
-        (run_spend (run_take (run_seen (cond-true (begins_type (kind t (onto_type y us)) && nat_le l 14) _ _ (and_from _ (nat_le l 14) (begins us) low))
+        prefix_reads t d l o _ (cast y x) r k.OpenParen First.an_open (kind_at t.names k.OpenParen [] _ tt) refl
+        (run_spend (run_take (run_seen (cond-true (begins_type (kind t.names (onto_type y us)) && nat_le l 14) _ _ (and_from _ (nat_le l 14) (begins us) low))
         (run_call refl (hy.all (d + 1) (onto_expression x r)) (run_expect k.CloseParen tt
         (run_call refl (expression_read t (d + 1) 14 0 x r hx (omega arith) (omega arith) xl (omega (arith, weight_gap r))) (run_done refl)))))));
   }
@@ -159,7 +159,7 @@ module _ (t : Types) where
   pub unary_reads : (u : UnaryOp) (x : Expression) → 14 ≤ level x → ReadsExpression t x → ReadsExpression t (unary u x)
   unary_reads u x xl hx = record {
     whole = λ d l o r some few fits ends.
-        prefix_reads t d l o _ (unary u x) r (unary_kind u) (a_unary u) (kind_unary t u _) (first_unary u)
+        prefix_reads t d l o _ (unary u x) r (unary_kind u) (a_unary u) (kind_unary t.names u _) (first_unary u)
         (run_spend (run_take (run_call refl (expression_read t (d + 1) 14 0 x r hx (omega arith) (omega arith) xl (omega (arith, weight_gap r))) (run_done refl))));
   }
 
@@ -167,41 +167,41 @@ module _ (t : Types) where
   pub before_reads : (s : StepOp) (x : Expression) → 15 ≤ level x → ReadsExpression t x → ReadsExpression t (before s x)
   before_reads s x xl hx = record {
     whole = λ d l o r some few fits ends.
-        prefix_reads t d l o _ (before s x) r (step_kind s) (a_step s) (kind_step t s _) (first_step s)
+        prefix_reads t d l o _ (before s x) r (step_kind s) (a_step s) (kind_step t.names s _) (first_step s)
         (run_spend (run_take (run_call refl (expression_read t (d + 1) 15 0 x r hx (omega arith) (omega arith) xl (omega (arith, weight_gap r))) (run_done refl))));
   }
 
   -- the size of a type is read
-  pub size_of_type_reads : (y : TypeTree) → ((us : Tokens) → begins_type (kind t (onto_type y us)) ≡ true) → ReadsType t y → ReadsExpression t (size_of_type y)
+  pub size_of_type_reads : (y : TypeTree) → ((us : Tokens) → begins_type (kind t.names (onto_type y us)) ≡ true) → ReadsType t y → ReadsExpression t (size_of_type y)
   size_of_type_reads y begins hy = record {
     whole = λ d l o r some few fits ends.
-        prefix_reads t d l o _ (size_of_type y) r k.Sizeof First.a_sizeof (kind_at t k.Sizeof [] _ tt) refl
-        (run_spend (run_take (run_at k.OpenParen tt (run_take (run_seen (cond-true (begins_type (kind t (onto_type y (mark (codes ")") ∷ r)))) _ _ (begins _))
+        prefix_reads t d l o _ (size_of_type y) r k.Sizeof First.a_sizeof (kind_at t.names k.Sizeof [] _ tt) refl
+        (run_spend (run_take (run_at k.OpenParen tt (run_take (run_seen (cond-true (begins_type (kind t.names (onto_type y (mark (codes ")") ∷ r)))) _ _ (begins _))
         (run_call refl (hy.all (d + 1) r) (run_expect k.CloseParen tt (run_done refl))))))));
   }
 
   -- behind sizeof: a bracket, or another token
   sized : (d : ℕ) (x : Expression) (r ts : Tokens) → weight r < 15 → 15 ≤ level x → ts ≡ onto_expression x r → parse (a_whole t (d + 1) 15 0) ts ≡ got x r tt →
-      ((us : Tokens) → ts ≡ mark (codes "(") ∷ us → begins_type (kind t us) ≡ false) →
-      parse (an_expression t (d + 1) 15 1) ts ≡ got x r tt → (e : Kind) → kind t ts ≡ e → Runs true 1 (sizeof_by t d e) ts (got (size_of x) r tt)
+      ((us : Tokens) → ts ≡ mark (codes "(") ∷ us → begins_type (kind t.names us) ≡ false) →
+      parse (an_expression t (d + 1) 15 1) ts ≡ got x r tt → (e : Kind) → kind t.names ts ≡ e → Runs true 1 (sizeof_by t d e) ts (got (size_of x) r tt)
   sized d x r ts ends xl of whole untyped all k.OpenParen is =
-      let at = head_is t ts k.OpenParen is tt in
+      let at = head_is t.names ts k.OpenParen is tt in
       let us = at.1 in
       let begins : ts ≡ mark (codes "(") ∷ us = at.2 in
-      let none : begins_type (kind t us) ≡ false = untyped us begins in
+      let none : begins_type (kind t.names us) ≡ false = untyped us begins in
       let inside : parse (an_opened t (d + 1)) us ≡ got x r tt = opened_whole t (d + 1) 0 us none ∙ ap (parse (a_whole t (d + 1) 15 0)) (sym begins) ∙ whole in
       subst (λ vs. Runs true 1 (sizeof_by t d k.OpenParen) vs (got (size_of x) r tt)) (sym begins)
-      (run_take (run_seen (cond-false (begins_type (kind t us)) _ _ none) (run_scope refl inside (run_done refl))))
+      (run_take (run_seen (cond-false (begins_type (kind t.names us)) _ _ none) (run_scope refl inside (run_done refl))))
   sized d x r ts ends xl of whole untyped all _ is = run_call refl all (run_done refl)
 
   -- the size of an expression is read
-  pub size_of_reads : (x : Expression) → ShapeExpression t x → 15 ≤ level x → ReadsExpression t x → ReadsExpression t (size_of x)
+  pub size_of_reads : (x : Expression) → ShapeExpression t.names x → 15 ≤ level x → ReadsExpression t x → ReadsExpression t (size_of x)
   size_of_reads x s xl hx = record {
     whole = λ d l o r some few fits ends.
         let low : weight r ≤ 13 = weight_gap r ends in
         let ts = onto_expression x r in
         let all : parse (an_expression t (d + 1) 15 1) ts ≡ got x r tt = expression_read t (d + 1) 15 1 x r hx (omega arith) (omega arith) xl (omega arith) in
         let whole : parse (a_whole t (d + 1) 15 0) ts ≡ got x r tt = whole_read t (d + 1) 15 0 x r hx (omega arith) (omega arith) xl (omega arith) in
-        prefix_reads t d l o _ (size_of x) r k.Sizeof First.a_sizeof (kind_at t k.Sizeof [] _ tt) refl
-        (run_spend (run_take (run_look (kind t ts) refl (sized d x r ts (omega arith) xl refl whole (λ us e. open_no_type t x r us s xl e) all (kind t ts) refl))));
+        prefix_reads t d l o _ (size_of x) r k.Sizeof First.a_sizeof (kind_at t.names k.Sizeof [] _ tt) refl
+        (run_spend (run_take (run_look (kind t.names ts) refl (sized d x r ts (omega arith) xl refl whole (λ us e. open_no_type t x r us s xl e) all (kind t.names ts) refl))));
   }

@@ -1,5 +1,5 @@
 -- Stars and qualifiers are read, and what begins and ends a declarator.
-use Rattle.std.proofs.Common.{◌≡◌, ◌≢◌, inl, inr, Bool, true, false, [], ◌∷◌, refl, sym, ap, ◌∙◌}
+use Rattle.std.proofs.Common.{◌≡◌, ◌≢◌, inl, inr, Bool, true, false, List, [], ◌∷◌, refl, sym, ap, ◌∙◌}
 use Rattle.c_tree.specs.declared.tree.Qual.TheVariants as q
 use Rattle.c_tree.specs.Tree.{Name, Quals, Stars, DeclaratorTree, plain, array, function, pointer, BareTree, bare_stars, bare_pointer}
 use Rattle.c_tree.specs.Marks.{Tokens, name_token}
@@ -82,12 +82,12 @@ stars_end_form r ends = elim ends [ inl e ↦ ap ends_stars e | inr e ↦ ap end
 
 -- a given token ends specifiers
 pub type_ends_at : (t : Types) (e : Kind) (r : Tokens) → IsFixed e → begins_type e ≡ false → e ≢ k.OpenBrace → EndsType t (token_of e [] ∷ r)
-type_ends_at t e r fixed none other = (ap begins_type (kind_at t e [] r fixed) ∙ none, λ q. other (sym (kind_at [] e [] r fixed) ∙ q))
+type_ends_at t e r fixed none other = (ap begins_type (kind_at t.names e [] r fixed) ∙ none, λ q. other (sym (kind_at [] e [] r fixed) ∙ q))
 
 -- a name that is no type ends specifiers
-pub type_ends_name : (t : Types) (n : Name) (r : Tokens) → IsOrdinary t n → EndsType t (name_token n ∷ r)
+pub type_ends_name : (t : Types) (n : Name) (r : Tokens) → IsOrdinary t.names n → EndsType t (name_token n ∷ r)
 type_ends_name t n r new =
-    (ap begins_type (kind_name t n r new), λ q. let e : k.Name ≡ k.OpenBrace = sym (kind_name [] n r refl) ∙ q in cc)
+    (ap begins_type (kind_name t.names n r new), λ q. let e : k.Name ≡ k.OpenBrace = sym (kind_name [] n r refl) ∙ q in cc)
 
 -- stars end specifiers, where what follows does
 pub type_ends_stars : (t : Types) (ss : Stars) (r : Tokens) → EndsType t r → EndsType t (onto_stars ss r)
@@ -95,7 +95,7 @@ type_ends_stars t [] r h = h
 type_ends_stars t (s ∷ ss) r h = type_ends_at t k.Star _ tt refl (λ q. cc)
 
 -- a declarator ends specifiers
-pub type_ends_declarator : (t : Types) (c : DeclaratorTree) (r : Tokens) → IsOrdinary t (declarator_name c) → EndsType t (onto_declarator c r)
+pub type_ends_declarator : (t : Types) (c : DeclaratorTree) (r : Tokens) → IsOrdinary t.names (declarator_name c) → EndsType t (onto_declarator c r)
 type_ends_declarator t (plain ss n) r new = type_ends_stars t ss _ (type_ends_name t n _ new)
 type_ends_declarator t (array ss n xs) r new = type_ends_stars t ss _ (type_ends_name t n _ new)
 type_ends_declarator t (function ss n ps v) r new = type_ends_stars t ss _ (type_ends_name t n _ new)
@@ -104,8 +104,8 @@ type_ends_declarator t (pointer ss qs n xs ps v) r new = type_ends_stars t ss _ 
 -- the end of a parameter ends specifiers
 pub type_ends_form : (t : Types) (r : Tokens) → EndsForm r → EndsType t r
 type_ends_form t r ends = elim ends [
-  | inl e ↦ (ap begins_type (kind_same [] t r k.Comma tt e), λ q. let f : k.Comma ≡ k.OpenBrace = sym e ∙ q in cc)
-  | inr e ↦ (ap begins_type (kind_same [] t r k.CloseParen tt e), λ q. let f : k.CloseParen ≡ k.OpenBrace = sym e ∙ q in cc)
+  | inl e ↦ (ap begins_type (kind_same [] t.names r k.Comma tt e), λ q. let f : k.Comma ≡ k.OpenBrace = sym e ∙ q in cc)
+  | inr e ↦ (ap begins_type (kind_same [] t.names r k.CloseParen tt e), λ q. let f : k.CloseParen ≡ k.OpenBrace = sym e ∙ q in cc)
 ]
 
 -- what has no name ends specifiers
@@ -114,21 +114,21 @@ type_ends_bare t (bare_stars ss) r ends = type_ends_stars t ss r (type_ends_form
 type_ends_bare t (bare_pointer ss qs ps v) r ends = type_ends_stars t ss _ (type_ends_at t k.OpenParen _ tt refl (λ q. cc))
 
 -- the name that a declarator declares is no type
-pub declares_ordinary : (t : Types) (c : DeclaratorTree) → ShapeDeclarator t c → IsOrdinary t (declarator_name c)
-declares_ordinary t (plain ss n) s = s
-declares_ordinary t (array ss n xs) s = s.0
-declares_ordinary t (function ss n ps v) s = s.0
-declares_ordinary t (pointer ss qs n xs ps v) s = s.0
+pub declares_ordinary : (types : List Name) (c : DeclaratorTree) → ShapeDeclarator types c → IsOrdinary types (declarator_name c)
+declares_ordinary types (plain ss n) s = s
+declares_ordinary types (array ss n xs) s = s.0
+declares_ordinary types (function ss n ps v) s = s.0
+declares_ordinary types (pointer ss qs n xs ps v) s = s.0
 
 -- ---- what begins a declarator
 
-stars_head : (t : Types) (ss : Stars) (r : Tokens) → begins_declarator (kind t r) ≡ true → begins_declarator (kind t (onto_stars ss r)) ≡ true
-stars_head t [] r h = h
-stars_head t (s ∷ ss) r h = ap begins_declarator (kind_at t k.Star [] _ tt)
+stars_head : (types : List Name) (ss : Stars) (r : Tokens) → begins_declarator (kind types r) ≡ true → begins_declarator (kind types (onto_stars ss r)) ≡ true
+stars_head types [] r h = h
+stars_head types (s ∷ ss) r h = ap begins_declarator (kind_at types k.Star [] _ tt)
 
--- a declarator begins with what a declarator begins with
-pub declarator_head : (t : Types) (c : DeclaratorTree) (r : Tokens) → ShapeDeclarator t c → begins_declarator (kind t (onto_declarator c r)) ≡ true
-declarator_head t (plain ss n) r s = stars_head t ss _ (ap begins_declarator (kind_name t n _ s))
-declarator_head t (array ss n xs) r s = stars_head t ss _ (ap begins_declarator (kind_name t n _ s.0))
-declarator_head t (function ss n ps v) r s = stars_head t ss _ (ap begins_declarator (kind_name t n _ s.0))
-declarator_head t (pointer ss qs n xs ps v) r s = stars_head t ss _ (ap begins_declarator (kind_at t k.OpenParen [] _ tt))
+-- a declarator begins with what a declarator begins with, where its name is none of these
+pub declarator_head : (types : List Name) (c : DeclaratorTree) (r : Tokens) → IsOrdinary types (declarator_name c) → begins_declarator (kind types (onto_declarator c r)) ≡ true
+declarator_head types (plain ss n) r new = stars_head types ss _ (ap begins_declarator (kind_name types n _ new))
+declarator_head types (array ss n xs) r new = stars_head types ss _ (ap begins_declarator (kind_name types n _ new))
+declarator_head types (function ss n ps v) r new = stars_head types ss _ (ap begins_declarator (kind_name types n _ new))
+declarator_head types (pointer ss qs n xs ps v) r new = stars_head types ss _ (ap begins_declarator (kind_at types k.OpenParen [] _ tt))

@@ -13,7 +13,7 @@ use Rattle.c_grammar.proofs.Onto.{onto_specifiers, onto_specifier}
 use Rattle.c_grammar.proofs.Parse.{parse}
 use Rattle.c_grammar.proofs.KindLemmas.{kind_at, kind_name, kind_type}
 use Rattle.c_grammar.proofs.WordLemmas.{first_words}
-use Rattle.c_grammar.proofs.Runs.{Runs, ran, run_done, run_look, run_seen, run_at, run_take, run_spend, run_call, run_then}
+use Rattle.c_grammar.proofs.Runs.{Runs, ran, run_done, run_look, run_seen, run_at, run_take, run_spend, run_call, run_then, run_naming}
 use Rattle.c_grammar.proofs.ReadsTree.{ReadsSpecifiers, ReadsSpecifier, ReadsMembers, ReadsEnumerators}
 
 -- no text begins with two kinds
@@ -42,19 +42,19 @@ specifiers_brace no_specifiers r h = h
 specifiers_brace (specifiers w ws) r h = specifier_brace w (onto_specifiers ws r)
 
 -- the specifiers by their next token
-specifiers_at : (t : Types) (d : ℕ) (ws : List TypeWord) (ts : Tokens) (xs : Specifiers) (r : Tokens) (e : Kind) (i : Start) → kind t ts ≡ e → start_of e ≡ i → Runs false 1 (specifiers_by t d ws i) ts (got xs r tt) →
-    parse (all_specifiers t d ws) ts ≡ got xs r tt
-specifiers_at t d ws ts xs r e i is of h =
-    let f : Start → Reads Specifiers = λ j. specifiers_by t d ws j in
-    ran (all_specifiers t d ws) ts (got xs r tt) (run_seen (ap f (ap start_of is ∙ of)) h)
+specifiers_at : (t : Types) (d : ℕ) (b : Bool) (ws : List TypeWord) (ts : Tokens) (xs : Specifiers) (r : Tokens) (e : Kind) (i : Start) → kind t.names ts ≡ e → start_of e ≡ i → Runs false 1 (specifiers_by t d b ws i) ts (got xs r tt) →
+    parse (all_specifiers t d b ws) ts ≡ got xs r tt
+specifiers_at t d b ws ts xs r e i is of h =
+    let f : Start → Reads Specifiers = λ j. specifiers_by t d b ws j in
+    ran (all_specifiers t d b ws) ts (got xs r tt) (run_seen (ap f (ap start_of is ∙ of)) h)
 
-no_start : (t : Types) (d : ℕ) (ws : List TypeWord) (i : Start) → is_start i ≡ false → specifiers_by t d ws i ≡ ends_type ws
-no_start t d ws Start.no_specifier h = refl
-no_start t d ws (Start.a_qualifier x) h = absurd (cc)
-no_start t d ws (Start.a_type_word w x) h = absurd (cc)
-no_start t d ws Start.a_type_name h = absurd (cc)
-no_start t d ws Start.a_struct_word h = absurd (cc)
-no_start t d ws Start.an_enum_word h = absurd (cc)
+no_start : (t : Types) (d : ℕ) (b : Bool) (ws : List TypeWord) (i : Start) → is_start i ≡ false → specifiers_by t d b ws i ≡ ends_type ws
+no_start t d b ws Start.no_specifier h = refl
+no_start t d b ws (Start.a_qualifier x) h = absurd (cc)
+no_start t d b ws (Start.a_type_word w x) h = absurd (cc)
+no_start t d b ws Start.a_type_name h = absurd (cc)
+no_start t d b ws Start.a_struct_word h = absurd (cc)
+no_start t d b ws Start.an_enum_word h = absurd (cc)
 
 struct_ends : (t : Types) (d : ℕ) (n : Name) (e : Kind) → e ≢ k.OpenBrace → struct_body_by t d n e ≡ done (struct_tag n)
 struct_ends t d n k.OpenBrace h = absurd (h refl)
@@ -68,129 +68,129 @@ module _ (t : Types) where
   -- the end of specifiers is read
   pub no_specifiers_reads : ReadsSpecifiers t no_specifiers
   no_specifiers_reads = record {
-    all = λ d ws r one ends.
-        ran (all_specifiers t d ws) r (got no_specifiers r tt)
-        (run_seen (no_start t d ws (start_of (kind t r)) ends.0) (run_then _ (ap is_one_type (sym (append-nil ws)) ∙ one) (run_done refl)));
+    all = λ d b ws r one ends.
+        ran (all_specifiers t d b ws) r (got no_specifiers r tt)
+        (run_seen (no_start t d b ws (start_of (kind t.names r)) ends.0) (run_then _ (ap is_one_type (sym (append-nil ws)) ∙ one) (run_done refl)));
   }
 
   -- a specifier and those behind it are read
   pub specifiers_reads : (w : Specifier) (xs : Specifiers) → ReadsSpecifier t w → ReadsSpecifiers t xs → ReadsSpecifiers t (specifiers w xs)
   specifiers_reads w xs hw hxs = record {
-    all = λ d ws r one ends.
-        hw.first d ws (onto_specifiers xs r) xs r one (specifiers_brace xs r ends.1)
-        (hxs.all d (ws ++ words_of w) r (ap is_one_type (append_assoc ws (words_of w) (type_words xs)) ∙ one) ends);
+    all = λ d b ws r one ends.
+        hw.first d b ws (onto_specifiers xs r) xs r one (specifiers_brace xs r ends.1)
+        (λ c. hxs.all d c (ws ++ words_of w) r (ap is_one_type (append_assoc ws (words_of w) (type_words xs)) ∙ one) ends);
   }
 
-  qualifier : (d : ℕ) (ws : List TypeWord) (us : Tokens) (xs : Specifiers) (r : Tokens) (e : Kind) (x : Specifier) → IsFixed e → start_of e ≡ Start.a_qualifier x →
-      parse (all_specifiers t d (ws ++ [])) us ≡ got xs r tt → parse (all_specifiers t d ws) (token_of e [] ∷ us) ≡ got (specifiers x xs) r tt
-  qualifier d ws us xs r e x fixed of h =
-      specifiers_at t d ws _ (specifiers x xs) r e (Start.a_qualifier x) (kind_at t e [] us fixed) of
-      (run_take (run_call refl (subst (λ v. parse (all_specifiers t d v) us ≡ got xs r tt) (append-nil ws) h) (run_done refl)))
+  qualifier : (d : ℕ) (b : Bool) (ws : List TypeWord) (us : Tokens) (xs : Specifiers) (r : Tokens) (e : Kind) (x : Specifier) → IsFixed e → start_of e ≡ Start.a_qualifier x →
+      ((c : Bool) → parse (all_specifiers t d c (ws ++ [])) us ≡ got xs r tt) → parse (all_specifiers t d b ws) (token_of e [] ∷ us) ≡ got (specifiers x xs) r tt
+  qualifier d b ws us xs r e x fixed of h =
+      specifiers_at t d b ws _ (specifiers x xs) r e (Start.a_qualifier x) (kind_at t.names e [] us fixed) of
+      (run_take (run_call refl (subst (λ v. parse (all_specifiers t d b v) us ≡ got xs r tt) (append-nil ws) (h b)) (run_done refl)))
 
   -- the word const is read
   pub const_reads : ReadsSpecifier t const_word
-  const_reads = record { first = λ d ws us xs r one brace h. qualifier d ws us xs r k.Const const_word tt refl h }
+  const_reads = record { first = λ d b ws us xs r one brace h. qualifier d b ws us xs r k.Const const_word tt refl h }
 
   -- the word volatile is read
   pub volatile_reads : ReadsSpecifier t volatile_word
-  volatile_reads = record { first = λ d ws us xs r one brace h. qualifier d ws us xs r k.Volatile volatile_word tt refl h }
+  volatile_reads = record { first = λ d b ws us xs r one brace h. qualifier d b ws us xs r k.Volatile volatile_word tt refl h }
 
-  word : (d : ℕ) (ws : List TypeWord) (us : Tokens) (xs : Specifiers) (r : Tokens) (e : Kind) (v : TypeWord) (x : Specifier) → IsFixed e → start_of e ≡ Start.a_type_word v x →
-      is_one_type (ws ++ v ∷ type_words xs) ≡ true → parse (all_specifiers t d (ws ++ v ∷ [])) us ≡ got xs r tt → parse (all_specifiers t d ws) (token_of e [] ∷ us) ≡ got (specifiers x xs) r tt
-  word d ws us xs r e v x fixed of one h =
-      specifiers_at t d ws _ (specifiers x xs) r e (Start.a_type_word v x) (kind_at t e [] us fixed) of
-      (run_then _ (first_words ws v (type_words xs) one) (run_take (run_call refl h (run_done refl))))
+  word : (d : ℕ) (b : Bool) (ws : List TypeWord) (us : Tokens) (xs : Specifiers) (r : Tokens) (e : Kind) (v : TypeWord) (x : Specifier) → IsFixed e → start_of e ≡ Start.a_type_word v x →
+      is_one_type (ws ++ v ∷ type_words xs) ≡ true → ((c : Bool) → parse (all_specifiers t d c (ws ++ v ∷ [])) us ≡ got xs r tt) → parse (all_specifiers t d b ws) (token_of e [] ∷ us) ≡ got (specifiers x xs) r tt
+  word d b ws us xs r e v x fixed of one h =
+      specifiers_at t d b ws _ (specifiers x xs) r e (Start.a_type_word v x) (kind_at t.names e [] us fixed) of
+      (run_then _ (first_words ws v (type_words xs) one) (run_naming b d (run_take (run_call refl (h false) (run_done refl)))))
 
   -- the word void is read
   pub void_reads : ReadsSpecifier t void_word
-  void_reads = record { first = λ d ws us xs r one brace h. word d ws us xs r k.Void of_void void_word tt refl one h }
+  void_reads = record { first = λ d b ws us xs r one brace h. word d b ws us xs r k.Void of_void void_word tt refl one h }
 
   -- the word char is read
   pub char_reads : ReadsSpecifier t char_word
-  char_reads = record { first = λ d ws us xs r one brace h. word d ws us xs r k.Char of_char char_word tt refl one h }
+  char_reads = record { first = λ d b ws us xs r one brace h. word d b ws us xs r k.Char of_char char_word tt refl one h }
 
   -- the word short is read
   pub short_reads : ReadsSpecifier t short_word
-  short_reads = record { first = λ d ws us xs r one brace h. word d ws us xs r k.Short of_short short_word tt refl one h }
+  short_reads = record { first = λ d b ws us xs r one brace h. word d b ws us xs r k.Short of_short short_word tt refl one h }
 
   -- the word int is read
   pub int_reads : ReadsSpecifier t int_word
-  int_reads = record { first = λ d ws us xs r one brace h. word d ws us xs r k.Int of_int int_word tt refl one h }
+  int_reads = record { first = λ d b ws us xs r one brace h. word d b ws us xs r k.Int of_int int_word tt refl one h }
 
   -- the word long is read
   pub long_reads : ReadsSpecifier t long_word
-  long_reads = record { first = λ d ws us xs r one brace h. word d ws us xs r k.Long of_long long_word tt refl one h }
+  long_reads = record { first = λ d b ws us xs r one brace h. word d b ws us xs r k.Long of_long long_word tt refl one h }
 
   -- the word signed is read
   pub signed_reads : ReadsSpecifier t signed_word
-  signed_reads = record { first = λ d ws us xs r one brace h. word d ws us xs r k.Signed of_signed signed_word tt refl one h }
+  signed_reads = record { first = λ d b ws us xs r one brace h. word d b ws us xs r k.Signed of_signed signed_word tt refl one h }
 
   -- the word unsigned is read
   pub unsigned_reads : ReadsSpecifier t unsigned_word
-  unsigned_reads = record { first = λ d ws us xs r one brace h. word d ws us xs r k.Unsigned of_unsigned unsigned_word tt refl one h }
+  unsigned_reads = record { first = λ d b ws us xs r one brace h. word d b ws us xs r k.Unsigned of_unsigned unsigned_word tt refl one h }
 
   -- the name of a type is read
-  pub type_name_reads : (n : Name) → IsTypeName t n → ReadsSpecifier t (type_name n)
+  pub type_name_reads : (n : Name) → IsTypeName t.names n → ReadsSpecifier t (type_name n)
   type_name_reads n known = record {
-    first = λ d ws us xs r one brace h.
-        specifiers_at t d ws _ (specifiers (type_name n) xs) r k.TypeName Start.a_type_name (kind_type t n us known) refl
-        (run_then _ (first_words ws of_whole (type_words xs) one) (run_take (run_call refl h (run_done refl))));
+    first = λ d b ws us xs r one brace h.
+        specifiers_at t d b ws _ (specifiers (type_name n) xs) r k.TypeName Start.a_type_name (kind_type t.names n us known) refl
+        (run_then _ (first_words ws of_whole (type_words xs) one) (run_naming b d (run_take (run_call refl (h false) (run_done refl)))));
   }
 
   -- behind the word struct
-  struct_first : (d : ℕ) (ws : List TypeWord) (ts us : Tokens) (xs : Specifiers) (r : Tokens) (x : Specifier) → is_one_type (ws ++ of_whole ∷ type_words xs) ≡ true →
-      parse (a_struct t d) ts ≡ got x us tt → parse (all_specifiers t d (ws ++ of_whole ∷ [])) us ≡ got xs r tt → parse (all_specifiers t d ws) (token_of k.Struct [] ∷ ts) ≡ got (specifiers x xs) r tt
-  struct_first d ws ts us xs r x one inside h =
-      specifiers_at t d ws _ (specifiers x xs) r k.Struct Start.a_struct_word (kind_at t k.Struct [] ts tt) refl
-      (run_then _ (first_words ws of_whole (type_words xs) one) (run_take (run_call refl inside (run_call refl h (run_done refl)))))
+  struct_first : (d : ℕ) (b : Bool) (ws : List TypeWord) (ts us : Tokens) (xs : Specifiers) (r : Tokens) (x : Specifier) → is_one_type (ws ++ of_whole ∷ type_words xs) ≡ true →
+      parse (a_struct t d) ts ≡ got x us tt → ((c : Bool) → parse (all_specifiers t d c (ws ++ of_whole ∷ [])) us ≡ got xs r tt) → parse (all_specifiers t d b ws) (token_of k.Struct [] ∷ ts) ≡ got (specifiers x xs) r tt
+  struct_first d b ws ts us xs r x one inside h =
+      specifiers_at t d b ws _ (specifiers x xs) r k.Struct Start.a_struct_word (kind_at t.names k.Struct [] ts tt) refl
+      (run_then _ (first_words ws of_whole (type_words xs) one) (run_take (run_call refl inside (run_call refl (h false) (run_done refl)))))
 
   -- the tag of a struct is read
   pub struct_tag_reads : (n : Name) → ReadsSpecifier t (struct_tag n)
   struct_tag_reads n = record {
-    first = λ d ws us xs r one brace h.
-        struct_first d ws (name_token n ∷ us) us xs r (struct_tag n) one
+    first = λ d b ws us xs r one brace h.
+        struct_first d b ws (name_token n ∷ us) us xs r (struct_tag n) one
         (ran (a_struct t d) (name_token n ∷ us) (got (struct_tag n) us tt) (run_look k.Name (kind_name [] n us refl) (run_take (run_seen (struct_ends t d n (kind [] us) brace) (run_done refl))))) h;
   }
 
   -- a struct with its members is read
   pub struct_of_reads : (n : Option Name) (ms : Members) → HasMember ms → ReadsMembers t ms → ReadsSpecifier t (struct_of n ms)
   struct_of_reads None ms some hm = record {
-    first = λ d ws us xs r one brace h.
-        struct_first d ws _ us xs r (struct_of None ms) one
+    first = λ d b ws us xs r one brace h.
+        struct_first d b ws _ us xs r (struct_of None ms) one
         (ran (a_struct t d) _ (got (struct_of None ms) us tt) (run_at k.OpenBrace tt (run_spend (run_take (run_call refl (hm.all d us some) (run_done refl)))))) h;
   }
   struct_of_reads (Some n) ms some hm = record {
-    first = λ d ws us xs r one brace h.
-        struct_first d ws _ us xs r (struct_of (Some n) ms) one
+    first = λ d b ws us xs r one brace h.
+        struct_first d b ws _ us xs r (struct_of (Some n) ms) one
         (ran (a_struct t d) _ (got (struct_of (Some n) ms) us tt)
         (run_look k.Name (kind_name [] n _ refl) (run_take (run_at k.OpenBrace tt (run_spend (run_take (run_call refl (hm.all d us some) (run_done refl)))))))) h;
   }
 
   -- behind the word enum
-  enum_first : (d : ℕ) (ws : List TypeWord) (ts us : Tokens) (xs : Specifiers) (r : Tokens) (x : Specifier) → is_one_type (ws ++ of_whole ∷ type_words xs) ≡ true →
-      parse (an_enum t d) ts ≡ got x us tt → parse (all_specifiers t d (ws ++ of_whole ∷ [])) us ≡ got xs r tt → parse (all_specifiers t d ws) (token_of k.Enum [] ∷ ts) ≡ got (specifiers x xs) r tt
-  enum_first d ws ts us xs r x one inside h =
-      specifiers_at t d ws _ (specifiers x xs) r k.Enum Start.an_enum_word (kind_at t k.Enum [] ts tt) refl
-      (run_then _ (first_words ws of_whole (type_words xs) one) (run_take (run_call refl inside (run_call refl h (run_done refl)))))
+  enum_first : (d : ℕ) (b : Bool) (ws : List TypeWord) (ts us : Tokens) (xs : Specifiers) (r : Tokens) (x : Specifier) → is_one_type (ws ++ of_whole ∷ type_words xs) ≡ true →
+      parse (an_enum t d) ts ≡ got x us tt → ((c : Bool) → parse (all_specifiers t d c (ws ++ of_whole ∷ [])) us ≡ got xs r tt) → parse (all_specifiers t d b ws) (token_of k.Enum [] ∷ ts) ≡ got (specifiers x xs) r tt
+  enum_first d b ws ts us xs r x one inside h =
+      specifiers_at t d b ws _ (specifiers x xs) r k.Enum Start.an_enum_word (kind_at t.names k.Enum [] ts tt) refl
+      (run_then _ (first_words ws of_whole (type_words xs) one) (run_take (run_call refl inside (run_call refl (h false) (run_done refl)))))
 
   -- the tag of an enum is read
   pub enum_tag_reads : (n : Name) → ReadsSpecifier t (enum_tag n)
   enum_tag_reads n = record {
-    first = λ d ws us xs r one brace h.
-        enum_first d ws (name_token n ∷ us) us xs r (enum_tag n) one
+    first = λ d b ws us xs r one brace h.
+        enum_first d b ws (name_token n ∷ us) us xs r (enum_tag n) one
         (ran (an_enum t d) (name_token n ∷ us) (got (enum_tag n) us tt) (run_look k.Name (kind_name [] n us refl) (run_take (run_seen (enum_ends t d n (kind [] us) brace) (run_done refl))))) h;
   }
 
   -- an enum with its enumerators is read
   pub enum_of_reads : (n : Option Name) (es : Enumerators) (c : Bool) → HasEnumerator es → ReadsEnumerators t es → ReadsSpecifier t (enum_of n es c)
   enum_of_reads None es c some he = record {
-    first = λ d ws us xs r one brace h.
-        enum_first d ws _ us xs r (enum_of None es c) one
+    first = λ d b ws us xs r one brace h.
+        enum_first d b ws _ us xs r (enum_of None es c) one
         (ran (an_enum t d) _ (got (enum_of None es c) us tt) (run_at k.OpenBrace tt (run_spend (run_take (run_call refl (he.all d c us some) (run_done refl)))))) h;
   }
   enum_of_reads (Some n) es c some he = record {
-    first = λ d ws us xs r one brace h.
-        enum_first d ws _ us xs r (enum_of (Some n) es c) one
+    first = λ d b ws us xs r one brace h.
+        enum_first d b ws _ us xs r (enum_of (Some n) es c) one
         (ran (an_enum t d) _ (got (enum_of (Some n) es c) us tt)
         (run_look k.Name (kind_name [] n _ refl) (run_take (run_at k.OpenBrace tt (run_spend (run_take (run_call refl (he.all d c us some) (run_done refl)))))))) h;
   }

@@ -10,7 +10,7 @@ use Rattle.c_grammar.specs.declared.kind.Kind.TheVariants as k
 use Rattle.c_grammar.specs.Kind.{kind, token_of, IsFixed}
 use Rattle.c_grammar.specs.Body.{done, look, take, spend, rise, call, scope, Outcome, got, refused, exceeded, and_then, exec}
 use Rattle.c_grammar.specs.Gauge.{free}
-use Rattle.c_grammar.specs.Rules.{Types, Rule, Result, Reads, rule, rank, expect, a_name, a_rest}
+use Rattle.c_grammar.specs.Rules.{Types, Rule, Result, Reads, rule, rank, expect, a_rest, named_by, naming}
 use Rattle.c_grammar.proofs.KindLemmas.{kind_at, kind_name, same_refl}
 use Rattle.c_grammar.proofs.Parse.{parse, opening}
 
@@ -84,8 +84,13 @@ module _ {A : Type 0} {taken : Bool} {limit : ℕ} {o : Outcome (Unit {0}) A} wh
   run_expect e fixed h = run_at e fixed (run_then _ (same_refl e) (run_take h))
 
   -- a name that is no type, as a rule wants one
-  pub run_name : {types : List Name} {f : Name → Reads A} {n : Name} {ts : Tokens} → is_among types n ≡ false → Runs true limit (f n) ts o → Runs taken limit (a_name types f) (name_token n ∷ ts) o
+  pub run_name : {types : List Name} {f : Name → Reads A} {n : Name} {ts : Tokens} → is_among types n ≡ false → Runs true limit (f n) ts o → Runs taken limit (look types (named_by [] f)) (name_token n ∷ ts) o
   run_name {types} {f} {n} {ts} new h = run_look k.Name (kind_name types n ts new) (run_take h)
+
+  -- a name may have to follow
+  pub run_naming : (b : Bool) (d : ℕ) {p : Reads A} {ts : Tokens} → Runs taken limit p ts o → Runs taken limit (naming b d p) ts o
+  run_naming true d h = run_spend h
+  run_naming false d h = h
 
 -- a body that ends with how an expression goes on
 pub run_rest : {t : Types} {d l : ℕ} {x : Expression} {taken : Bool} {limit : ℕ} {ts : Tokens} {o : Outcome (Unit {0}) Expression} → taken || nat_lt 1 limit ≡ true → parse (a_rest t d l x) ts ≡ o →

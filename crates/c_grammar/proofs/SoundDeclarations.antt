@@ -12,14 +12,15 @@ use Rattle.c_tree.specs.Tree.{Specifiers, DeclaratorTree, function, Initializer,
 use Rattle.c_grammar.specs.declared.kind.Kind.{Kind}
 use Rattle.c_grammar.specs.declared.kind.Kind.TheVariants as k
 use Rattle.c_grammar.specs.Kind.{kind}
-use Rattle.c_grammar.specs.Body.{stop, spend, done}
+use Rattle.c_grammar.specs.Body.{stop, done}
 use Rattle.c_grammar.specs.Body as body
 use Rattle.c_grammar.specs.Gauge.{free}
-use Rattle.c_grammar.specs.Rules.{Types, Reads, rule, an_initializer, all_initializers, more_initializers, a_declaration, a_declared, a_named, more_named, initializer_by, initializers_by, next_initializer_by, more_initializers_by, declaration_by, declared_names_by, has_initializer, named_init_by, more_named_by, begins_declarator}
+use Rattle.c_grammar.specs.Rules.{Types, Reads, rule, an_initializer, all_initializers, more_initializers, a_declaration, a_declared, a_named, more_named, initializer_by, initializers_by, next_initializer_by, more_initializers_by, declaration_by, declared_names_by, has_initializer, named_init_by, more_named_by, begins_declarator, naming}
 use Rattle.c_grammar.proofs.Onto.{onto_initial, onto_initializers, onto_more_initializers, onto_specifiers, onto_storage, onto_declarator}
 use Rattle.c_grammar.proofs.Conditions.{Goes, go_done, go_stop, go_look, go_spend, go_call, go_if, go_take, go_expect, go_a_name}
 use Rattle.c_grammar.proofs.Read.{Read}
 use Rattle.c_grammar.proofs.Keeps.{Keeps, KeepsOn}
+use Rattle.c_grammar.proofs.SoundTypes.{go_naming}
 
 -- false is not true
 pub never : {A : Type 0} → false ≡ true → A
@@ -30,8 +31,8 @@ never e = absurd (false≢true e)
 single-goes : (t : Types) (d : ℕ) (o : ℕ) (ts : Tokens) → Keeps (an_initializer t d o) (initializer_by t d o k.Nothing) ts
 single-goes t d o ts = go_call (λ x us _ h. let r = h (omega arith) in go_done (r.0, (r.2, r.1)))
 
-initializer-goes : (t : Types) (d : ℕ) (o : ℕ) (ts : Tokens) (e : Kind) → kind t ts ≡ e → Keeps (an_initializer t d o) (initializer_by t d o e) ts
-initializer-goes t d o ts k.OpenBrace is = go_spend (λ y _. go_take t k.OpenBrace is tt (λ n us at. go_call (λ ps vs _ h. go_done (cc, (h.1, h.2)))))
+initializer-goes : (t : Types) (d : ℕ) (o : ℕ) (ts : Tokens) (e : Kind) → kind t.names ts ≡ e → Keeps (an_initializer t d o) (initializer_by t d o e) ts
+initializer-goes t d o ts k.OpenBrace is = go_spend (λ y _. go_take t.names k.OpenBrace is tt (λ n us at. go_call (λ ps vs _ h. go_done (cc, (h.1, h.2)))))
 initializer-goes t d o ts _ is = single-goes t d o ts
 
 -- The tokens of an initialiser are those that one of its shape spells.
@@ -58,8 +59,8 @@ led (initializers n i ps) r h = refl
 listed-goes : (t : Types) (d : ℕ) (ts us : Tokens) → ts ≡ mark (codes ",") ∷ us → KeepsOn (more_initializers t d) (next_initializer_by t d k.Nothing) ts us
 listed-goes t d ts us at = go_call (λ ps vs _ h. go_done ((at ∙ ap (λ v. mark (codes ",") ∷ v) h.0) ∙ sym (led ps.0 _ h.1), h.2))
 
-next-goes : (t : Types) (d : ℕ) (ts us : Tokens) → ts ≡ mark (codes ",") ∷ us → (e : Kind) → kind t us ≡ e → KeepsOn (more_initializers t d) (next_initializer_by t d e) ts us
-next-goes t d ts us at k.CloseBrace is = go_take t k.CloseBrace is tt (λ n vs here. go_done (cc, tt))
+next-goes : (t : Types) (d : ℕ) (ts us : Tokens) → ts ≡ mark (codes ",") ∷ us → (e : Kind) → kind t.names us ≡ e → KeepsOn (more_initializers t d) (next_initializer_by t d e) ts us
+next-goes t d ts us at k.CloseBrace is = go_take t.names k.CloseBrace is tt (λ n vs here. go_done (cc, tt))
 next-goes t d ts us at _ is = listed-goes t d ts us at
 
 more_initializers-goes : (t : Types) (d : ℕ) (ts : Tokens) (e : Kind) → kind [] ts ≡ e → Keeps (more_initializers t d) (more_initializers_by t d e) ts
@@ -91,7 +92,7 @@ fits_init _ _ i inner may = tt
 module _ {Q : NamedTree → Tokens → Unit {0} → Type 0} where
   -- behind a declarator: with no initialiser, and with one
   pub named_init-goes : (t : Types) (d : ℕ) (may : Bool) (x : DeclaratorTree) (us : Tokens) → Q (record { declarator = x; init = None }) us tt →
-      ((i : Initializer) (vs : Tokens) → us ≡ onto_initial (Some i) vs → ShapeInit t i → may ≡ true → Q (record { declarator = x; init = Some i }) vs tt) →
+      ((i : Initializer) (vs : Tokens) → us ≡ onto_initial (Some i) vs → ShapeInit t.names i → may ≡ true → Q (record { declarator = x; init = Some i }) vs tt) →
       (e : Kind) → kind [] us ≡ e → Goes (Unit {0}) free Read NamedTree (named_init_by t d may x e) Q us tt
   named_init-goes t d may x us none some k.Assign is =
       go_if {b = may} (λ yes. go_spend (λ y _. go_take [] k.Assign is tt (λ n vs at. go_call (λ i ws _ h. go_done (some i ws (cc) h.1 yes))))) (λ other. go_stop)
@@ -123,9 +124,9 @@ more_named-sound t d ts = go_look (λ e is. more_named-goes t d ts e is)
 others-goes : (t : Types) (d : ℕ) (ts : Tokens) → Keeps (a_declaration t d) (declaration_by t d k.Nothing) ts
 others-goes t d ts = go_call (λ x us _ h. go_done (h tt))
 
-declaration-goes : (t : Types) (d : ℕ) (ts : Tokens) (e : Kind) → kind t ts ≡ e → Keeps (a_declaration t d) (declaration_by t d e) ts
-declaration-goes t d ts k.Static is = go_take t k.Static is tt (λ n us at. go_call (λ x vs _ h. let r = h tt in go_done (at ∙ r.0, r.1)))
-declaration-goes t d ts k.Extern is = go_take t k.Extern is tt (λ n us at. go_call (λ x vs _ h. let r = h tt in go_done (at ∙ r.0, r.1)))
+declaration-goes : (t : Types) (d : ℕ) (ts : Tokens) (e : Kind) → kind t.names ts ≡ e → Keeps (a_declaration t d) (declaration_by t d e) ts
+declaration-goes t d ts k.Static is = go_take t.names k.Static is tt (λ n us at. go_call (λ x vs _ h. let r = h tt in go_done (at ∙ r.0, r.1)))
+declaration-goes t d ts k.Extern is = go_take t.names k.Extern is tt (λ n us at. go_call (λ x vs _ h. let r = h tt in go_done (at ∙ r.0, r.1)))
 declaration-goes t d ts _ is = others-goes t d ts
 
 -- The tokens of a declaration inside a function are those that one of its shape spells.
@@ -134,20 +135,20 @@ a_declaration-sound t d ts = go_look (λ e is. declaration-goes t d ts e is)
 
 -- at least one name, behind the specifiers
 abbrev names : Types → ℕ → Storage → Specifiers → Reads DeclarationTree
-names t d c ws = spend 1 (d + 1) (body.call (a_named t d) (λ n. body.call (more_named t d) (λ ns. done (record { storage = c; specs = ws; names = n ∷ ns }))))
+names t d c ws = naming (has_tag ws) d (body.call (a_named t d) (λ n. body.call (more_named t d) (λ ns. done (record { storage = c; specs = ws; names = n ∷ ns }))))
 
-names-goes : (t : Types) (d : ℕ) (c : Storage) (ws : Specifiers) (ts us : Tokens) → ts ≡ onto_specifiers ws us → ShapeSpecifiers t ws → NamesType ws →
+names-goes : (t : Types) (d : ℕ) (c : Storage) (ws : Specifiers) (ts us : Tokens) → ts ≡ onto_specifiers ws us → ShapeSpecifiers t.names ws → NamesType ws →
     (begins : Bool) → KeepsOn (a_declared t d c) (cond begins (names t d c ws) stop) ts us
 names-goes t d c ws ts us at shaped named true =
-    go_spend (λ y _. go_call (λ x vs _ f. go_call (λ xs rest _ g. go_done (λ inner.
-    let scope : Scope = behind_specifiers ws (record { types = t; others = [] }) in
+    go_naming (has_tag ws) d (go_call (λ x vs _ f. go_call (λ xs rest _ g. go_done (λ inner.
+    let scope : Scope = behind_specifiers ws (record { types = t.names; others = [] }) in
     (ap (λ v. onto_storage c v) (cc), (inner, (named, shaped, (λ none. absurd (cc)), (f.1 c scope inner refl, g.1 c (behind_named c x scope) inner (same_types c x scope inner)))))))))
 names-goes t d c ws ts us at shaped named false = go_stop
 
-declared-goes : (t : Types) (d : ℕ) (c : Storage) (ws : Specifiers) (ts us : Tokens) → ts ≡ onto_specifiers ws us → ShapeSpecifiers t ws → NamesType ws →
-    (e : Kind) → kind t us ≡ e → KeepsOn (a_declared t d c) (declared_names_by t d c ws e) ts us
+declared-goes : (t : Types) (d : ℕ) (c : Storage) (ws : Specifiers) (ts us : Tokens) → ts ≡ onto_specifiers ws us → ShapeSpecifiers t.names ws → NamesType ws →
+    (e : Kind) → kind t.names us ≡ e → KeepsOn (a_declared t d c) (declared_names_by t d c ws e) ts us
 declared-goes t d c ws ts us at shaped named k.Semicolon is =
-    go_if {b = has_tag ws} (λ tagged. go_take t k.Semicolon is tt (λ n vs here. go_done (λ inner. (ap (λ v. onto_storage c v) (cc), (inner, (named, shaped, (λ none. tagged), tt)))))) (λ other. go_stop)
+    go_if {b = has_tag ws} (λ tagged. go_take t.names k.Semicolon is tt (λ n vs here. go_done (λ inner. (ap (λ v. onto_storage c v) (cc), (inner, (named, shaped, (λ none. tagged), tt)))))) (λ other. go_stop)
 declared-goes t d c ws ts us at shaped named e is = names-goes t d c ws ts us at shaped named (begins_declarator e)
 
 -- The tokens of a declaration inside a function, behind its storage class, are those that one of its shape spells.

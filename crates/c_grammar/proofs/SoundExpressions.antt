@@ -68,21 +68,21 @@ sized-by t d l o ts us vs e at opening = go_if {b = begins_type e}
 operand-by : (t : Types) (d l o : ℕ) (ts us : Tokens) → ts ≡ keyword (codes "sizeof") ∷ us → KeepsOn (a_prefix t d l o) (sizeof_by t d k.Nothing) ts us
 operand-by t d l o ts us at = go_call (λ x vs _ p. go_done (λ low. let read = p (omega arith) in (rw (at, read.0) refl, (read.2, read.1), low)))
 
-sizeof-by : (t : Types) (d l o : ℕ) (ts us : Tokens) (e : Kind) → kind t us ≡ e → ts ≡ keyword (codes "sizeof") ∷ us → KeepsOn (a_prefix t d l o) (sizeof_by t d e) ts us
-sizeof-by t d l o ts us k.OpenParen is at = go_take t k.OpenParen is tt (λ n vs opening. go_look (λ e _. sized-by t d l o ts us vs e at opening))
+sizeof-by : (t : Types) (d l o : ℕ) (ts us : Tokens) (e : Kind) → kind t.names us ≡ e → ts ≡ keyword (codes "sizeof") ∷ us → KeepsOn (a_prefix t d l o) (sizeof_by t d e) ts us
+sizeof-by t d l o ts us k.OpenParen is at = go_take t.names k.OpenParen is tt (λ n vs opening. go_look (λ e _. sized-by t d l o ts us vs e at opening))
 sizeof-by t d l o ts us _ is at = operand-by t d l o ts us at
 
-prefix-by : (t : Types) (d l o : ℕ) (ts : Tokens) (e : Kind) (f : First) → kind t ts ≡ e → Begins f e → Keeps (a_prefix t d l o) (prefix_by t d l o f) ts
+prefix-by : (t : Types) (d l o : ℕ) (ts : Tokens) (e : Kind) (f : First) → kind t.names ts ≡ e → Begins f e → Keeps (a_prefix t d l o) (prefix_by t d l o f) ts
 prefix-by t d l o ts e no_operand is st = go_stop
-prefix-by t d l o ts e a_word is st = go_spend (λ _ _. go_name t (is ∙ st) (λ n us at ordinary. go_done (λ low. (at, ordinary, omega arith))))
-prefix-by t d l o ts e a_number is st = go_spend (λ _ _. go_take t k.Integer (is ∙ st) tt (λ n us at. go_done (λ low. (at, tt, omega arith))))
-prefix-by t d l o ts e a_character is st = go_spend (λ _ _. go_take t k.Character (is ∙ st) tt (λ n us at. go_done (λ low. (at, tt, omega arith))))
-prefix-by t d l o ts e a_text is st = go_spend (λ _ _. go_take t k.Text (is ∙ st) tt (λ n us at. go_call (λ ns vs _ p. go_done (λ low. (rw (at, p) refl, omega arith, omega arith)))))
-prefix-by t d l o ts e an_open is st = go_spend (λ _ _. go_take t k.OpenParen (is ∙ st) tt (λ n us at. go_look (λ j _. opened-by t d l o ts us j at)))
-prefix-by t d l o ts e a_sizeof is st = go_spend (λ _ _. go_take t k.Sizeof (is ∙ st) tt (λ n us at. go_look (λ j next. sizeof-by t d l o ts us j next at)))
-prefix-by t d l o ts e (a_step c) is st = go_spend (λ _ _. go_take t (step_kind c) (is ∙ st) (step_real c) (λ n us at. go_call (λ x vs _ p. go_done (λ low.
+prefix-by t d l o ts e a_word is st = go_spend (λ _ _. go_name t.names (is ∙ st) (λ n us at ordinary. go_done (λ low. (at, ordinary, omega arith))))
+prefix-by t d l o ts e a_number is st = go_spend (λ _ _. go_take t.names k.Integer (is ∙ st) tt (λ n us at. go_done (λ low. (at, tt, omega arith))))
+prefix-by t d l o ts e a_character is st = go_spend (λ _ _. go_take t.names k.Character (is ∙ st) tt (λ n us at. go_done (λ low. (at, tt, omega arith))))
+prefix-by t d l o ts e a_text is st = go_spend (λ _ _. go_take t.names k.Text (is ∙ st) tt (λ n us at. go_call (λ ns vs _ p. go_done (λ low. (rw (at, p) refl, omega arith, omega arith)))))
+prefix-by t d l o ts e an_open is st = go_spend (λ _ _. go_take t.names k.OpenParen (is ∙ st) tt (λ n us at. go_look (λ j _. opened-by t d l o ts us j at)))
+prefix-by t d l o ts e a_sizeof is st = go_spend (λ _ _. go_take t.names k.Sizeof (is ∙ st) tt (λ n us at. go_look (λ j next. sizeof-by t d l o ts us j next at)))
+prefix-by t d l o ts e (a_step c) is st = go_spend (λ _ _. go_take t.names (step_kind c) (is ∙ st) (step_real c) (λ n us at. go_call (λ x vs _ p. go_done (λ low.
     let read = p (omega arith) in (rw (at, step_mark c n, read.0) refl, (read.2, read.1), low)))))
-prefix-by t d l o ts e (a_unary c) is st = go_spend (λ _ _. go_take t (unary_kind c) (is ∙ st) (unary_real c) (λ n us at. go_call (λ x vs _ p. go_done (λ low.
+prefix-by t d l o ts e (a_unary c) is st = go_spend (λ _ _. go_take t.names (unary_kind c) (is ∙ st) (unary_real c) (λ n us at. go_call (λ x vs _ p. go_done (λ low.
     let read = p (omega arith) in (rw (at, unary_mark c n, read.0) refl, (read.2, read.1), low)))))
 
 -- the first operand of an expression
@@ -112,8 +112,8 @@ more_texts-sound ts = go_look (λ e is. texts-by ts e is)
 arguments : (t : Types) (d : ℕ) (ts : Tokens) → Keeps (all_arguments t d) (arguments_by t d k.Nothing) ts
 arguments t d ts = go_call (λ x us _ p. go_call (λ xs vs _ q. go_done (let read = p (omega arith) in (rw (read.0, q.0) refl, (read.2, read.1, q.1)))))
 
-arguments-by : (t : Types) (d : ℕ) (ts : Tokens) (e : Kind) → kind t ts ≡ e → Keeps (all_arguments t d) (arguments_by t d e) ts
-arguments-by t d ts k.CloseParen is = go_take t k.CloseParen is tt (λ n us at. go_done (at, tt))
+arguments-by : (t : Types) (d : ℕ) (ts : Tokens) (e : Kind) → kind t.names ts ≡ e → Keeps (all_arguments t d) (arguments_by t d e) ts
+arguments-by t d ts k.CloseParen is = go_take t.names k.CloseParen is tt (λ n us at. go_done (at, tt))
 arguments-by t d ts _ is = arguments t d ts
 
 -- the arguments of a call

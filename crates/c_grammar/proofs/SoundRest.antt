@@ -133,34 +133,34 @@ operator_low b.Rem = omega arith
 allowed : (l own left v : ℕ) → nat_le l own && nat_le left v ≡ true → (l ≤ own) × (left ≤ v)
 allowed l own left v e = (grind (arith, nat_tests), grind (arith, nat_tests))
 
-rest-by : (t : Types) (d l : ℕ) (x : Expression) (ts : Tokens) (e : Kind) (i : Infix) → kind t ts ≡ e → Stands i e → goes_on l i (level x) ≡ true → Keeps (a_rest t d l x) (longer t d l x i) ts
+rest-by : (t : Types) (d l : ℕ) (x : Expression) (ts : Tokens) (e : Kind) (i : Infix) → kind t.names ts ≡ e → Stands i e → goes_on l i (level x) ≡ true → Keeps (a_rest t d l x) (longer t d l x i) ts
 rest-by t d l x ts e no_infix is st on = go_done (λ s h. (refl, s, h))
 rest-by t d l x ts e a_comma is st on = let fits = allowed l 1 1 (level x) on in
-    go_rise (λ _ _. go_spend (λ _ _. go_take t k.Comma (is ∙ st) tt (λ n us at. go_call (λ y vs _ p. go_call (λ z ws _ q. go_done (λ s h.
+    go_rise (λ _ _. go_spend (λ _ _. go_take t.names k.Comma (is ∙ st) tt (λ n us at. go_call (λ y vs _ p. go_call (λ z ws _ q. go_done (λ s h.
     let read = p (omega arith) in let rest = q (fits.1, read.2, s, read.1) fits.0 in (rw (at, read.0) rest.0, rest.1, rest.2)))))))
 rest-by t d l x ts e (an_assign o) is st on = let fits = allowed l 2 15 (level x) on in
-    go_rise (λ _ _. go_spend (λ _ _. go_take t (assignment_kind o) (is ∙ st) (assignment_real o) (λ n us at. go_call (λ y vs _ p. go_call (λ z ws _ q. go_done (λ s h.
+    go_rise (λ _ _. go_spend (λ _ _. go_take t.names (assignment_kind o) (is ∙ st) (assignment_real o) (λ n us at. go_call (λ y vs _ p. go_call (λ z ws _ q. go_done (λ s h.
     let read = p (omega arith) in let rest = q (fits.1, read.2, s, read.1) fits.0 in (rw (at, assignment_mark o n, read.0) rest.0, rest.1, rest.2)))))))
 rest-by t d l x ts e a_question is st on = let fits = allowed l 3 4 (level x) on in
-    go_rise (λ _ _. go_spend (λ _ _. go_take t k.Question (is ∙ st) tt (λ n us at. go_call (λ y vs _ p. go_expect k.Colon tt (λ m ns colon. go_call (λ w os _ o. go_call (λ z ws _ q. go_done (λ s h.
+    go_rise (λ _ _. go_spend (λ _ _. go_take t.names k.Question (is ∙ st) tt (λ n us at. go_call (λ y vs _ p. go_expect k.Colon tt (λ m ns colon. go_call (λ w os _ o. go_call (λ z ws _ q. go_done (λ s h.
     let read = p (omega arith) in let last = o (omega arith) in let rest = q (fits.1, read.2, last.2, s, read.1, last.1) fits.0 in (rw (at, read.0, colon, last.0) rest.0, rest.1, rest.2)))))))))
 rest-by t d l x ts e (an_operator o) is st on = let fits = allowed l (op_level o) (op_level o) (level x) on in
-    go_rise (λ _ _. go_spend (λ _ _. go_take t (operator_kind o) (is ∙ st) (operator_real o) (λ n us at. go_call (λ y vs _ p. go_call (λ z ws _ q. go_done (λ s h.
+    go_rise (λ _ _. go_spend (λ _ _. go_take t.names (operator_kind o) (is ∙ st) (operator_real o) (λ n us at. go_call (λ y vs _ p. go_call (λ z ws _ q. go_done (λ s h.
     let read = p (operator_low o) in let rest = q (fits.1, read.2, s, read.1) fits.0 in (rw (at, operator_mark o n, read.0) rest.0, rest.1, rest.2)))))))
 rest-by t d l x ts e an_index is st on = let fits = allowed l 16 16 (level x) on in
-    go_rise (λ _ _. go_spend (λ _ _. go_take t k.OpenBracket (is ∙ st) tt (λ n us at. go_call (λ y vs _ p. go_expect k.CloseBracket tt (λ m ns close. go_call (λ z ws _ q. go_done (λ s h.
+    go_rise (λ _ _. go_spend (λ _ _. go_take t.names k.OpenBracket (is ∙ st) tt (λ n us at. go_call (λ y vs _ p. go_expect k.CloseBracket tt (λ m ns close. go_call (λ z ws _ q. go_done (λ s h.
     let read = p (omega arith) in let rest = q (fits.1, s, read.1) fits.0 in (rw (at, read.0, close) rest.0, rest.1, rest.2))))))))
 rest-by t d l x ts e a_call is st on = let fits = allowed l 16 16 (level x) on in
-    go_rise (λ _ _. go_spend (λ _ _. go_take t k.OpenParen (is ∙ st) tt (λ n us at. go_call (λ xs vs _ p. go_call (λ z ws _ q. go_done (λ s h.
+    go_rise (λ _ _. go_spend (λ _ _. go_take t.names k.OpenParen (is ∙ st) tt (λ n us at. go_call (λ xs vs _ p. go_call (λ z ws _ q. go_done (λ s h.
     let rest = q (fits.1, s, p.1) fits.0 in (rw (at, p.0) rest.0, rest.1, rest.2)))))))
 rest-by t d l x ts e a_dot is st on = let fits = allowed l 16 16 (level x) on in
-    go_rise (λ _ _. go_spend (λ _ _. go_take t k.Dot (is ∙ st) tt (λ n us at. go_a_name (λ m vs named ordinary. go_call (λ z ws _ q. go_done (λ s h.
+    go_rise (λ _ _. go_spend (λ _ _. go_take t.names k.Dot (is ∙ st) tt (λ n us at. go_a_name (λ m vs named ordinary. go_call (λ z ws _ q. go_done (λ s h.
     let rest = q (fits.1, ordinary, s) fits.0 in (rw (at, named) rest.0, rest.1, rest.2)))))))
 rest-by t d l x ts e an_arrow is st on = let fits = allowed l 16 16 (level x) on in
-    go_rise (λ _ _. go_spend (λ _ _. go_take t k.Arrow (is ∙ st) tt (λ n us at. go_a_name (λ m vs named ordinary. go_call (λ z ws _ q. go_done (λ s h.
+    go_rise (λ _ _. go_spend (λ _ _. go_take t.names k.Arrow (is ∙ st) tt (λ n us at. go_a_name (λ m vs named ordinary. go_call (λ z ws _ q. go_done (λ s h.
     let rest = q (fits.1, ordinary, s) fits.0 in (rw (at, named) rest.0, rest.1, rest.2)))))))
 rest-by t d l x ts e (a_step_behind o) is st on = let fits = allowed l 16 16 (level x) on in
-    go_rise (λ _ _. go_spend (λ _ _. go_take t (step_kind o) (is ∙ st) (step_real o) (λ n us at. go_call (λ z ws _ q. go_done (λ s h.
+    go_rise (λ _ _. go_spend (λ _ _. go_take t.names (step_kind o) (is ∙ st) (step_real o) (λ n us at. go_call (λ z ws _ q. go_done (λ s h.
     let rest = q (fits.1, s) fits.0 in (rw (at, step_mark o n) rest.0, rest.1, rest.2))))))
 
 -- an expression goes on as the rule promises

@@ -1,19 +1,19 @@
 -- The rules of statements read tokens that a tree of their shape spells.
-use Rattle.std.proofs.Common.{◌≡◌, ◌≢◌, ◌⊎◌, inl, inr, ℕ, ◌+◌, Bool, true, false, ◌||◌, cond, [], ◌∷◌, refl, sym, ap, subst, ◌∙◌, arith}
+use Rattle.std.proofs.Common.{◌≡◌, ◌≢◌, ◌⊎◌, inl, inr, ℕ, ◌+◌, Bool, true, false, ◌||◌, cond, [], ◌∷◌, Some, refl, sym, ap, subst, ◌∙◌, arith}
 use Rattle.std.proofs.lemmas.Bool.{false_from_ne_true}
 use Rattle.std.specs.Prelude.{IsTrue}
 use Rattle.c_tree.specs.Marks.{Tokens, name_token}
 use Rattle.c_tree.specs.TypeWords.{is_among}
 use Rattle.c_tree.specs.ExpressionShape.{ShapeExpression}
 use Rattle.c_tree.specs.Shape.{Place, of_branch, ends_open, ShapeStatement}
-use Rattle.c_tree.specs.Tree.{Name, Expression, StatementTree, declaration, if_statement}
+use Rattle.c_tree.specs.Tree.{Name, Expression, name, StatementTree, declaration, expression_statement, if_statement}
 use Rattle.c_grammar.specs.declared.kind.Kind.{Kind}
 use Rattle.c_grammar.specs.declared.kind.Kind.TheVariants as k
 use Rattle.c_grammar.specs.Kind.{kind, token_of, same_kind, IsReal}
-use Rattle.c_grammar.specs.Body.{stop, spend, done}
+use Rattle.c_grammar.specs.Body.{stop, spend, scope, done}
 use Rattle.c_grammar.specs.Body as body
 use Rattle.c_grammar.specs.Gauge.{free}
-use Rattle.c_grammar.specs.Rules.{Types, Reads, rule, a_declaration, a_statement, all_statements, an_optional, a_start, statement_by, statements_by, else_by, labelled_by, expressed, begins_declaration}
+use Rattle.c_grammar.specs.Rules.{Types, Reads, rule, expect, a_rest, a_declaration, a_statement, all_statements, an_optional, a_start, statement_by, statements_by, else_by, follows_name, labelled_by, expressed, begins_declaration}
 use Rattle.c_grammar.proofs.KindLemmas.{same_true}
 use Rattle.c_grammar.proofs.Onto.{onto_expression, onto_statement}
 use Rattle.c_grammar.proofs.Conditions.{Goes, go_done, go_stop, go_look, go_spend, go_call, go_strict, go_scope, go_if, go_take, go_name, go_expect, go_a_name}
@@ -32,22 +32,27 @@ no_else e us is another same = subst IsNoElse (sym is ∙ same) another
 expressed-goes : (t : Types) (d : ℕ) (p : Place) (o : ℕ) (ts : Tokens) → KeepsOn (a_statement t d p o) (expressed t d o) ts ts
 expressed-goes t d p o ts = go_call (λ x us _ h. go_expect k.Semicolon tt (λ n vs at. let r = h (omega arith) in go_done (cc, r.1, never)))
 
-rest-goes : (t : Types) (d : ℕ) (p : Place) (o : ℕ) (n : Name) (ts us : Tokens) → ts ≡ name_token n ∷ us → is_among t n ≡ false →
-    KeepsOn (a_statement t d p o) (labelled_by t d n k.Nothing) ts us
-rest-goes t d p o n ts us at ordinary =
+-- an expression that begins with this name, which was read
+abbrev named_first : Types → ℕ → Name → Reads StatementTree
+named_first t d n = spend 1 (d + 2) (scope (d + 2) (a_rest t (d + 1) 1 (name n)) (λ x. expect k.Semicolon (done (expression_statement (Some x)))))
+
+rest-goes : (t : Types) (d : ℕ) (p : Place) (o : ℕ) (n : Name) (ts us : Tokens) → ts ≡ name_token n ∷ us → is_among t.names n ≡ false →
+    (follows : Bool) → KeepsOn (a_statement t d p o) (cond follows (named_first t d n) stop) ts us
+rest-goes t d p o n ts us at ordinary false = go_stop
+rest-goes t d p o n ts us at ordinary true =
     go_spend (λ y _. go_scope (λ x vs _ h. go_expect k.Semicolon tt (λ m ws here. let r = h ordinary (omega arith) in go_done (cc, r.1, never))))
 
-labelled-goes : (t : Types) (d : ℕ) (p : Place) (o : ℕ) (n : Name) (ts us : Tokens) → ts ≡ name_token n ∷ us → is_among t n ≡ false → IsTrue p.in_block →
+labelled-goes : (t : Types) (d : ℕ) (p : Place) (o : ℕ) (n : Name) (ts us : Tokens) → ts ≡ name_token n ∷ us → is_among t.names n ≡ false → IsTrue p.in_block →
     (e : Kind) → kind [] us ≡ e → KeepsOn (a_statement t d p o) (labelled_by t d n e) ts us
 labelled-goes t d p o n ts us at ordinary inside k.Colon is = go_take [] k.Colon is tt (λ m vs here. go_done (cc, (inside, ordinary), never))
-labelled-goes t d p o n ts us at ordinary inside _ is = rest-goes t d p o n ts us at ordinary
+labelled-goes t d p o n ts us at ordinary inside e is = rest-goes t d p o n ts us at ordinary (follows_name e)
 
 unended-goes : (t : Types) (d : ℕ) (p : Place) (o : ℕ) (x : Expression) (y : StatementTree) (ts us : Tokens) → ts ≡ onto_statement (if_statement x y) us →
-    ShapeExpression t x → ShapeStatement t y (of_branch p) → kind [] us ≢ k.Else → KeepsOn (a_statement t d p o) (done (if_statement x y)) ts us
+    ShapeExpression t.names x → ShapeStatement t.names y (of_branch p) → kind [] us ≢ k.Else → KeepsOn (a_statement t d p o) (done (if_statement x y)) ts us
 unended-goes t d p o x y ts us at tested shaped another = go_done (at, (tested, shaped), λ _. another)
 
 else-goes : (t : Types) (d : ℕ) (p : Place) (o : ℕ) (x : Expression) (y : StatementTree) (ts us : Tokens) → ts ≡ onto_statement (if_statement x y) us →
-    ShapeExpression t x → ShapeStatement t y (of_branch p) → (IsTrue (ends_open y) → kind [] us ≢ k.Else) → (e : Kind) → kind [] us ≡ e → KeepsOn (a_statement t d p o) (else_by t d p x y e) ts us
+    ShapeExpression t.names x → ShapeStatement t.names y (of_branch p) → (IsTrue (ends_open y) → kind [] us ≢ k.Else) → (e : Kind) → kind [] us ≡ e → KeepsOn (a_statement t d p o) (else_by t d p x y e) ts us
 else-goes t d p o x y ts us at tested shaped closes k.Else is =
     go_spend (λ m _. go_take [] k.Else is tt (λ n vs here. go_call (λ z ws _ q. go_done (cc, (false_from_ne_true (ends_open y) (λ ends. closes ends is), tested, shaped, q.1), q.2))))
 else-goes t d p o x y ts us at tested shaped closes _ is = unended-goes t d p o x y ts us at tested shaped (no_else _ us is tt)
@@ -63,40 +68,40 @@ other-goes : (t : Types) (d : ℕ) (p : Place) (o : ℕ) (ts : Tokens) (declares
 other-goes t d p o ts true = declared-goes t d p o ts
 other-goes t d p o ts false = expressed-goes t d p o ts
 
-statement-goes : (t : Types) (d : ℕ) (p : Place) (o : ℕ) (ts : Tokens) (e : Kind) → kind t ts ≡ e → KeepsOn (a_statement t d p o) (statement_by t d p o e) ts ts
+statement-goes : (t : Types) (d : ℕ) (p : Place) (o : ℕ) (ts : Tokens) (e : Kind) → kind t.names ts ≡ e → KeepsOn (a_statement t d p o) (statement_by t d p o e) ts ts
 statement-goes t d p o ts k.OpenBrace is =
-    go_spend (λ y _. go_take t k.OpenBrace is tt (λ n us at. go_call (λ ss vs _ q. go_done (cc, q.1, never))))
-statement-goes t d p o ts k.Semicolon is = go_spend (λ y _. go_take t k.Semicolon is tt (λ n us at. go_done (at, tt, never)))
+    go_spend (λ y _. go_take t.names k.OpenBrace is tt (λ n us at. go_call (λ ss vs _ q. go_done (cc, q.1, never))))
+statement-goes t d p o ts k.Semicolon is = go_spend (λ y _. go_take t.names k.Semicolon is tt (λ n us at. go_done (at, tt, never)))
 statement-goes t d p o ts k.If is =
-    go_spend (λ y _. go_take t k.If is tt (λ n us at. go_expect k.OpenParen tt (λ m vs here. go_call (λ x ws _ h.
+    go_spend (λ y _. go_take t.names k.If is tt (λ n us at. go_expect k.OpenParen tt (λ m vs here. go_call (λ x ws _ h.
     go_expect k.CloseParen tt (λ l xs there. go_call (λ z ys _ q. let r = h (omega arith) in go_look (λ e next. else-goes t d p o x z ts ys (cc) r.1 q.1 q.2 e next)))))))
 statement-goes t d p o ts k.While is =
-    go_spend (λ y _. go_take t k.While is tt (λ n us at. go_expect k.OpenParen tt (λ m vs here. go_call (λ x ws _ h.
+    go_spend (λ y _. go_take t.names k.While is tt (λ n us at. go_expect k.OpenParen tt (λ m vs here. go_call (λ x ws _ h.
     go_expect k.CloseParen tt (λ l xs there. go_call (λ z ys _ q. let r = h (omega arith) in go_done (cc, (r.1, q.1), q.2)))))))
 statement-goes t d p o ts k.Do is =
-    go_spend (λ y _. go_take t k.Do is tt (λ n us at. go_call (λ z vs _ q. go_expect k.While tt (λ m ws here. go_expect k.OpenParen tt (λ l xs there. go_call (λ x ys _ h.
+    go_spend (λ y _. go_take t.names k.Do is tt (λ n us at. go_call (λ z vs _ q. go_expect k.While tt (λ m ws here. go_expect k.OpenParen tt (λ l xs there. go_call (λ x ys _ h.
     go_expect k.CloseParen tt (λ i zs behind. go_expect k.Semicolon tt (λ j rest last. let r = h (omega arith) in go_done (cc, (q.1, r.1), never)))))))))
 statement-goes t d p o ts k.For is =
-    go_spend (λ y _. go_take t k.For is tt (λ n us at. go_expect k.OpenParen tt (λ m vs here. go_call (λ c ws _ f. go_call (λ x xs _ g. go_call (λ w ys _ h. go_call (λ z zs _ q.
+    go_spend (λ y _. go_take t.names k.For is tt (λ n us at. go_expect k.OpenParen tt (λ m vs here. go_call (λ c ws _ f. go_call (λ x xs _ g. go_call (λ w ys _ h. go_call (λ z zs _ q.
     let a = g (inl refl) in let b = h (inr refl) in go_done (cc, (f.1, a.1, b.1, q.1), q.2))))))))
 statement-goes t d p o ts k.Switch is =
-    go_spend (λ y _. go_take t k.Switch is tt (λ n us at. go_expect k.OpenParen tt (λ m vs here. go_call (λ x ws _ h.
+    go_spend (λ y _. go_take t.names k.Switch is tt (λ n us at. go_expect k.OpenParen tt (λ m vs here. go_call (λ x ws _ h.
     go_expect k.CloseParen tt (λ l xs there. go_expect k.OpenBrace tt (λ i ys behind. go_call (λ ss zs _ q. let r = h (omega arith) in go_done (cc, (r.1, q.1), never))))))))
 statement-goes t d p o ts k.Case is =
-    go_if {b = p.in_cases} (λ inside. go_spend (λ y _. go_take t k.Case is tt (λ n us at. go_call (λ x vs _ h. go_expect k.Colon tt (λ m ws here. let r = h (omega arith) in go_done (cc, (inside, r.2, r.1), never))))))
+    go_if {b = p.in_cases} (λ inside. go_spend (λ y _. go_take t.names k.Case is tt (λ n us at. go_call (λ x vs _ h. go_expect k.Colon tt (λ m ws here. let r = h (omega arith) in go_done (cc, (inside, r.2, r.1), never))))))
     (λ outer. go_stop)
 statement-goes t d p o ts k.Default is =
-    go_if {b = p.in_cases} (λ inside. go_spend (λ y _. go_take t k.Default is tt (λ n us at. go_expect k.Colon tt (λ m vs here. go_done (cc, inside, never))))) (λ outer. go_stop)
+    go_if {b = p.in_cases} (λ inside. go_spend (λ y _. go_take t.names k.Default is tt (λ n us at. go_expect k.Colon tt (λ m vs here. go_done (cc, inside, never))))) (λ outer. go_stop)
 statement-goes t d p o ts k.Break is =
-    go_if {b = p.in_loop || p.in_switch} (λ inside. go_spend (λ y _. go_take t k.Break is tt (λ n us at. go_expect k.Semicolon tt (λ m vs here. go_done (cc, inside, never))))) (λ outer. go_stop)
+    go_if {b = p.in_loop || p.in_switch} (λ inside. go_spend (λ y _. go_take t.names k.Break is tt (λ n us at. go_expect k.Semicolon tt (λ m vs here. go_done (cc, inside, never))))) (λ outer. go_stop)
 statement-goes t d p o ts k.Continue is =
-    go_if {b = p.in_loop} (λ inside. go_spend (λ y _. go_take t k.Continue is tt (λ n us at. go_expect k.Semicolon tt (λ m vs here. go_done (cc, inside, never))))) (λ outer. go_stop)
+    go_if {b = p.in_loop} (λ inside. go_spend (λ y _. go_take t.names k.Continue is tt (λ n us at. go_expect k.Semicolon tt (λ m vs here. go_done (cc, inside, never))))) (λ outer. go_stop)
 statement-goes t d p o ts k.Return is =
-    go_spend (λ y _. go_take t k.Return is tt (λ n us at. go_call (λ x vs _ h. let r = h (inl refl) in go_done (cc, r.1, never))))
+    go_spend (λ y _. go_take t.names k.Return is tt (λ n us at. go_call (λ x vs _ h. let r = h (inl refl) in go_done (cc, r.1, never))))
 statement-goes t d p o ts k.Goto is =
-    go_spend (λ y _. go_take t k.Goto is tt (λ n us at. go_a_name (λ m vs here ordinary. go_expect k.Semicolon tt (λ l ws there. go_done (cc, ordinary, never)))))
+    go_spend (λ y _. go_take t.names k.Goto is tt (λ n us at. go_a_name (λ m vs here ordinary. go_expect k.Semicolon tt (λ l ws there. go_done (cc, ordinary, never)))))
 statement-goes t d p o ts k.Name is =
-    go_if {b = p.in_block} (λ inside. go_spend (λ y _. go_name t is (λ n us at ordinary. go_look (λ e next. labelled-goes t d p o n ts us at ordinary inside e next)))) (λ outer. expressed-goes t d p o ts)
+    go_if {b = p.in_block} (λ inside. go_spend (λ y _. go_name t.names is (λ n us at ordinary. go_look (λ e next. labelled-goes t d p o n ts us at ordinary inside e next)))) (λ outer. expressed-goes t d p o ts)
 statement-goes t d p o ts e is = other-goes t d p o ts (begins_declaration e)
 
 -- A statement's tokens are those that a statement of its shape spells, and none that ends with an open if goes on with else.
@@ -106,8 +111,8 @@ a_statement-sound t d p o ts = go_look (λ e is. statement-goes t d p o ts e is)
 another-goes : (t : Types) (d : ℕ) (p : Place) (ts : Tokens) → Keeps (all_statements t d p) (statements_by t d p k.Nothing) ts
 another-goes t d p ts = go_strict (λ x us _ h. go_call (λ xs vs _ q. go_done (cc, (h.1, q.1))))
 
-statements-goes : (t : Types) (d : ℕ) (p : Place) (ts : Tokens) (e : Kind) → kind t ts ≡ e → Keeps (all_statements t d p) (statements_by t d p e) ts
-statements-goes t d p ts k.CloseBrace is = go_take t k.CloseBrace is tt (λ n us at. go_done (at, tt))
+statements-goes : (t : Types) (d : ℕ) (p : Place) (ts : Tokens) (e : Kind) → kind t.names ts ≡ e → Keeps (all_statements t d p) (statements_by t d p e) ts
+statements-goes t d p ts k.CloseBrace is = go_take t.names k.CloseBrace is tt (λ n us at. go_done (at, tt))
 statements-goes t d p ts _ is = another-goes t d p ts
 
 -- The tokens of a block's statements and its closing brace are those that statements of their shape spell.

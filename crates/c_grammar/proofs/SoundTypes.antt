@@ -8,15 +8,22 @@ use Rattle.c_grammar.specs.declared.kind.Kind.{Kind}
 use Rattle.c_grammar.specs.declared.kind.Kind.TheVariants as k
 use Rattle.c_grammar.specs.Kind.{kind, token_of, IsReal}
 use Rattle.c_grammar.specs.Body.{done, stop, spend, call}
-use Rattle.c_grammar.specs.Rules.{Types, Reads, a_type, all_specifiers, a_struct, all_members, more_members, an_enum, all_enumerators, more_enumerators, Start, no_specifier, a_qualifier, a_type_word, a_type_name, a_struct_word, an_enum_word, start_of, begins_type, ends_type, with_word, specifiers_by, struct_body_by, struct_by, more_members_by, enum_body_by, enum_by, enumerator_by, next_enumerator_by, more_enumerators_by, rule}
-use Rattle.c_grammar.proofs.Conditions.{go_done, go_stop, go_look, go_spend, go_call, go_if, go_take, go_expect, go_a_name}
-use Rattle.c_grammar.proofs.KindLemmas.{kind_name}
+use Rattle.c_grammar.specs.Rules.{Types, Reads, a_type, all_specifiers, a_struct, all_members, more_members, an_enum, all_enumerators, more_enumerators, Start, no_specifier, a_qualifier, a_type_word, a_type_name, a_struct_word, an_enum_word, start_of, begins_type, ends_type, with_word, naming, barred, specifiers_by, struct_body_by, struct_by, more_members_by, enum_body_by, enum_by, enumerator_by, next_enumerator_by, more_enumerators_by, rule}
+use Rattle.c_grammar.specs.Gauge.{free}
+use Rattle.c_grammar.proofs.Conditions.{Property, Goes, go_done, go_stop, go_look, go_spend, go_call, go_if, go_take, go_expect, go_a_name}
+use Rattle.c_grammar.proofs.KindLemmas.{kind_name, among_neither}
 use Rattle.c_grammar.proofs.Onto.{onto_enumerators, onto_more_enumerators, onto_specifier}
 use Rattle.c_grammar.proofs.Keeps.{Keeps, KeepsOn}
 
+-- the next token may make a name necessary
+pub go_naming : {Post : Property (Unit {0})} {A : Type 0} {Q : A → Tokens → Unit {0} → Type 0} {ts : Tokens} {f : Reads A} (b : Bool) (d : ℕ) →
+    Goes (Unit {0}) free Post A f Q ts tt → Goes (Unit {0}) free Post A (naming b d f) Q ts tt
+go_naming true d h = go_spend (λ _ _. h)
+go_naming false d h = h
+
 -- the token of this kind is the specifier, whose words are these
 abbrev Spells : Types → Specifier → List TypeWord → Kind → Type 0
-Spells t x ws e = IsReal e × ((n : Name) (us : Tokens) → token_of e n ∷ us ≡ onto_specifier x us) × (words_of x ≡ ws) × ShapeSpecifier t x
+Spells t x ws e = IsReal e × ((n : Name) (us : Tokens) → token_of e n ∷ us ≡ onto_specifier x us) × (words_of x ≡ ws) × ShapeSpecifier t.names x
 
 -- the kind of the token that specifiers begin with
 abbrev Starts : Types → Start → Kind → Type 0
@@ -46,32 +53,32 @@ types_among : (types : List Name) (n : Name) (us : Tokens) (test : Bool) → is_
 types_among types n us true e is = e
 types_among types n us false e is = absurd (cc (kind_name types n us e))
 
-ends : (t : Types) (d : ℕ) (ws : List TypeWord) (ts : Tokens) → Keeps (all_specifiers t d ws) (ends_type ws) ts
-ends t d ws ts = go_if {b = is_one_type ws} (λ on. go_done (refl, tt, rw append-nil on)) (λ off. go_stop)
+ends : (t : Types) (d : ℕ) (b : Bool) (ws : List TypeWord) (ts : Tokens) → Keeps (all_specifiers t d b ws) (ends_type ws) ts
+ends t d b ws ts = go_if {b = is_one_type ws} (λ on. go_done (refl, tt, rw append-nil on)) (λ off. go_stop)
 
-with-word : (t : Types) (d : ℕ) (ws : List TypeWord) (w : TypeWord) (f : Reads Specifiers) (ts : Tokens) → Keeps (all_specifiers t d ws) f ts → Keeps (all_specifiers t d ws) (with_word ws w f) ts
-with-word t d ws w f ts h = go_if {b = is_one_type (ws ++ w ∷ [])} (λ on. h) (λ off. ends t d ws ts)
+with-word : (t : Types) (d : ℕ) (b : Bool) (ws : List TypeWord) (w : TypeWord) (f : Reads Specifiers) (ts : Tokens) → Keeps (all_specifiers t d b ws) f ts → Keeps (all_specifiers t d b ws) (with_word ws w f) ts
+with-word t d b ws w f ts h = go_if {b = is_one_type (ws ++ w ∷ [])} (λ on. h) (λ off. ends t d b ws ts)
 
 -- the words of the specifiers behind one go on with its own
 behind : (ws vs : List TypeWord) (x : Specifier) (xs : Specifiers) → words_of x ≡ vs → IsTrue (is_one_type ((ws ++ vs) ++ type_words xs)) → IsTrue (is_one_type (ws ++ type_words (specifiers x xs)))
 behind ws vs x xs e h = subst (λ us. IsTrue (is_one_type us)) (append_assoc ws vs (type_words xs) ∙ ap (λ us. ws ++ (us ++ type_words xs)) (sym e)) h
 
-specifiers-by : (t : Types) (d : ℕ) (ws : List TypeWord) (ts : Tokens) (e : Kind) (i : Start) → kind t ts ≡ e → Starts t i e → Keeps (all_specifiers t d ws) (specifiers_by t d ws i) ts
-specifiers-by t d ws ts e no_specifier is st = ends t d ws ts
-specifiers-by t d ws ts e (a_qualifier x) is st = go_take t e is st.0 (λ n us at. go_call (λ xs vs _ p.
+specifiers-by : (t : Types) (d : ℕ) (b : Bool) (ws : List TypeWord) (ts : Tokens) (e : Kind) (i : Start) → kind t.names ts ≡ e → Starts t i e → Keeps (all_specifiers t d b ws) (specifiers_by t d b ws i) ts
+specifiers-by t d b ws ts e no_specifier is st = ends t d b ws ts
+specifiers-by t d b ws ts e (a_qualifier x) is st = go_take t.names e is st.0 (λ n us at. go_call (λ xs vs _ p.
     go_done (rw (at, p.0) (st.1 _ _), (st.3, p.1), behind ws [] x xs st.2 (rw append-nil p.2))))
-specifiers-by t d ws ts e (a_type_word w x) is st = with-word t d ws w _ ts (go_take t e is st.0 (λ n us at. go_call (λ xs vs _ p.
-    go_done (rw (at, p.0) (st.1 _ _), (st.3, p.1), behind ws (w ∷ []) x xs st.2 p.2))))
-specifiers-by t d ws ts e a_type_name is st = with-word t d ws of_whole _ ts (go_take t k.TypeName (is ∙ st) tt (λ n us at. go_call (λ xs vs _ p.
-    go_done (rw (at, p.0) refl, (types_among t n us (is_among t n) refl (rw at at (is ∙ st)), p.1), behind ws (of_whole ∷ []) (type_name n) xs refl p.2))))
-specifiers-by t d ws ts e a_struct_word is st = with-word t d ws of_whole _ ts (go_take t k.Struct (is ∙ st) tt (λ n us at. go_call (λ x vs _ o. go_call (λ xs os _ p.
+specifiers-by t d b ws ts e (a_type_word w x) is st = with-word t d b ws w _ ts (go_naming b d (go_take t.names e is st.0 (λ n us at. go_call (λ xs vs _ p.
+    go_done (rw (at, p.0) (st.1 _ _), (st.3, p.1), behind ws (w ∷ []) x xs st.2 p.2)))))
+specifiers-by t d b ws ts e a_type_name is st = with-word t d b ws of_whole _ ts (go_naming b d (go_take t.names k.TypeName (is ∙ st) tt (λ n us at. go_call (λ xs vs _ p.
+    go_done (rw (at, p.0) refl, (types_among t.names n us (is_among t.names n) refl (rw at at (is ∙ st)), p.1), behind ws (of_whole ∷ []) (type_name n) xs refl p.2)))))
+specifiers-by t d b ws ts e a_struct_word is st = with-word t d b ws of_whole _ ts (go_take t.names k.Struct (is ∙ st) tt (λ n us at. go_call (λ x vs _ o. go_call (λ xs os _ p.
     go_done (rw (at, ← p.0) o.0, (o.1, p.1), behind ws (of_whole ∷ []) x xs o.2 p.2)))))
-specifiers-by t d ws ts e an_enum_word is st = with-word t d ws of_whole _ ts (go_take t k.Enum (is ∙ st) tt (λ n us at. go_call (λ x vs _ o. go_call (λ xs os _ p.
+specifiers-by t d b ws ts e an_enum_word is st = with-word t d b ws of_whole _ ts (go_take t.names k.Enum (is ∙ st) tt (λ n us at. go_call (λ x vs _ o. go_call (λ xs os _ p.
     go_done (rw (at, ← p.0) o.0, (o.1, p.1), behind ws (of_whole ∷ []) x xs o.2 p.2)))))
 
 -- specifiers behind those of some words
-pub all_specifiers-sound : (t : Types) (d : ℕ) (ws : List TypeWord) (ts : Tokens) → Keeps (all_specifiers t d ws) (rule (all_specifiers t d ws)) ts
-all_specifiers-sound t d ws ts = go_look (λ e is. specifiers-by t d ws ts e (start_of e) is (starts t e))
+pub all_specifiers-sound : (t : Types) (d : ℕ) (b : Bool) (ws : List TypeWord) (ts : Tokens) → Keeps (all_specifiers t d b ws) (rule (all_specifiers t d b ws)) ts
+all_specifiers-sound t d b ws ts = go_look (λ e is. specifiers-by t d b ws ts e (start_of e) is (starts t e))
 
 -- a type
 pub a_type-sound : (t : Types) (d : ℕ) (ts : Tokens) → Keeps (a_type t d) (rule (a_type t d)) ts
@@ -98,8 +105,8 @@ all_members-sound t d ts = go_call (λ ws us _ p. go_call (λ cs vs _ q. go_expe
 members-on : (t : Types) (d : ℕ) (ts : Tokens) (e : Kind) → Keeps (more_members t d) (if begins_type e then spend 1 (d + 1) (call (all_members t d) done) else stop) ts
 members-on t d ts e = go_if {b = begins_type e} (λ on. go_spend (λ _ _. go_call (λ ms us _ p. go_done (p.0, p.2)))) (λ off. go_stop)
 
-members-by : (t : Types) (d : ℕ) (ts : Tokens) (e : Kind) → kind t ts ≡ e → Keeps (more_members t d) (more_members_by t d e) ts
-members-by t d ts k.CloseBrace is = go_take t k.CloseBrace is tt (λ n us at. go_done (at, tt))
+members-by : (t : Types) (d : ℕ) (ts : Tokens) (e : Kind) → kind t.names ts ≡ e → Keeps (more_members t d) (more_members_by t d e) ts
+members-by t d ts k.CloseBrace is = go_take t.names k.CloseBrace is tt (λ n us at. go_done (at, tt))
 members-by t d ts e is = members-on t d ts e
 
 -- more members
@@ -119,17 +126,17 @@ enum-by t d ts _ is = go_stop
 pub an_enum-sound : (t : Types) (d : ℕ) (ts : Tokens) → Keeps (an_enum t d) (rule (an_enum t d)) ts
 an_enum-sound t d ts = go_look (λ e is. enum-by t d ts e is)
 
-enumerator-alone : (t : Types) (d : ℕ) (n : Name) (ts us : Tokens) → is_among t n ≡ false → ts ≡ name_token n ∷ us → KeepsOn (all_enumerators t d) (enumerator_by t d n k.Nothing) ts us
+enumerator-alone : (t : Types) (d : ℕ) (n : Name) (ts us : Tokens) → is_among t.names n ≡ false → ts ≡ name_token n ∷ us → KeepsOn (all_enumerators t d) (enumerator_by t d n k.Nothing) ts us
 enumerator-alone t d n ts us ordinary at = go_call (λ es vs _ p. go_done (rw (at, p.0) refl, tt, (ordinary, p.1)))
 
-enumerator-by : (t : Types) (d : ℕ) (n : Name) (ts us : Tokens) (e : Kind) → kind [] us ≡ e → is_among t n ≡ false → ts ≡ name_token n ∷ us → KeepsOn (all_enumerators t d) (enumerator_by t d n e) ts us
+enumerator-by : (t : Types) (d : ℕ) (n : Name) (ts us : Tokens) (e : Kind) → kind [] us ≡ e → is_among t.names n ≡ false → ts ≡ name_token n ∷ us → KeepsOn (all_enumerators t d) (enumerator_by t d n e) ts us
 enumerator-by t d n ts us k.Assign is ordinary at = go_spend (λ _ _. go_take [] k.Assign is tt (λ m vs set. go_call (λ x ws _ p. go_call (λ es os _ q.
     go_done (let read = p (omega arith) in (rw (at, set, read.0, q.0) refl, tt, (ordinary, read.2, read.1, q.1)))))))
 enumerator-by t d n ts us _ is ordinary at = enumerator-alone t d n ts us ordinary at
 
 -- the enumerators of an enum
 pub all_enumerators-sound : (t : Types) (d : ℕ) (ts : Tokens) → Keeps (all_enumerators t d) (rule (all_enumerators t d)) ts
-all_enumerators-sound t d ts = go_a_name (λ n us at ordinary. go_look (λ e is. enumerator-by t d n ts us e is ordinary at))
+all_enumerators-sound t d ts = go_a_name (λ n us at new. go_look (λ e is. enumerator-by t d n ts us e is (among_neither t.taken t.names n new).1 at))
 
 -- enumerators behind a comma
 after_comma : (es : Enumerators) (r : Tokens) → HasEnumerator es → mark (codes ",") ∷ onto_enumerators es r ≡ onto_more_enumerators es r
@@ -137,8 +144,8 @@ after_comma no_enumerators r h = absurd h
 after_comma (enumerator n es) r h = refl
 after_comma (enumerator_with n x es) r h = refl
 
-next-by : (t : Types) (d : ℕ) (ts us : Tokens) (e : Kind) → kind t us ≡ e → ts ≡ mark (codes ",") ∷ us → KeepsOn (more_enumerators t d) (next_enumerator_by t d e) ts us
-next-by t d ts us k.CloseBrace is at = go_take t k.CloseBrace is tt (λ n vs close. go_done (rw (at, close) refl, tt))
+next-by : (t : Types) (d : ℕ) (ts us : Tokens) (e : Kind) → kind (barred t) us ≡ e → ts ≡ mark (codes ",") ∷ us → KeepsOn (more_enumerators t d) (next_enumerator_by t d e) ts us
+next-by t d ts us k.CloseBrace is at = go_take (barred t) k.CloseBrace is tt (λ n vs close. go_done (rw (at, close) refl, tt))
 next-by t d ts us k.Name is at = go_spend (λ _ _. go_call (λ es vs _ p. go_done (rw (at, p.0) (after_comma es.0 _ p.1), p.2)))
 next-by t d ts us _ is at = go_stop
 

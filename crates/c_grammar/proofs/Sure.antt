@@ -71,3 +71,35 @@ module _ (R : Type 0) (V : R → Type 0) (rank : R → ℕ) (rule : (r : R) → 
       Holds (Post r ts x) (reads R V rank rule X gauge top r ts x)
   unfolding reads
   all_hold sure top r ts x = run_holds sure _ r ts x
+
+module _ (R : Type 0) (V : R → Type 0) (X : Type 0) (gauge : Gauge X) (Post : (r : R) → Tokens → X → V r → Tokens → X → Type 0) where
+  -- what holds of everything holds of what a body reads
+  pub sure_always : {A : Type 0} (b : Body R V A) (Q : A → Tokens → X → Type 0) → ((a : A) (ts : Tokens) (x : X) → Q a ts x) → (ts : Tokens) (x : X) → Sure R V X gauge Post b Q ts x
+  sure_always (done a) Q h ts x = h a ts x
+  sure_always stop Q h ts x = tt
+  sure_always (look types f) Q h ts x = sure_always (f (kind types ts)) Q h ts x
+  sure_always (take f) Q h [] x = tt
+  sure_always (take f) Q h (t ∷ ts) x = sure_always (f t.lexeme) Q h ts x
+  sure_always (spend n d b) Q h ts x = λ y e. sure_always b Q h ts y
+  sure_always (rise b) Q h ts x = λ y e. sure_always b Q h ts y
+  sure_always (call r f) Q h ts x = λ v us y p. sure_always (f v) Q h us y
+  sure_always (strict r f) Q h ts x = λ v us y p. sure_always (f v) Q h us y
+  sure_always (scope n r f) Q h ts x = λ v us y p. sure_always (f v) Q h us (gauge.leaves x y)
+
+module _ (R : Type 0) (V : R → Type 0) (X : Type 0) (gauge : Gauge X) (First Second : (r : R) → Tokens → X → V r → Tokens → X → Type 0) where
+  abbrev Pair : (r : R) → Tokens → X → V r → Tokens → X → Type 0
+  Pair r ts x v us y = First r ts x v us y × Second r ts x v us y
+
+  -- What a body reads has two properties, if what each call reads has its own two.
+  pub sure_both : {A : Type 0} (b : Body R V A) (P Q : A → Tokens → X → Type 0) (ts : Tokens) (x : X) → Sure R V X gauge First b P ts x → Sure R V X gauge Second b Q ts x →
+      Sure R V X gauge Pair b (λ v us y. P v us y × Q v us y) ts x
+  sure_both (done a) P Q ts x h g = (h, g)
+  sure_both stop P Q ts x h g = tt
+  sure_both (look types f) P Q ts x h g = sure_both (f (kind types ts)) P Q ts x h g
+  sure_both (take f) P Q [] x h g = tt
+  sure_both (take f) P Q (t ∷ ts) x h g = sure_both (f t.lexeme) P Q ts x h g
+  sure_both (spend n d b) P Q ts x h g = λ y e. sure_both b P Q ts y (h y e) (g y e)
+  sure_both (rise b) P Q ts x h g = λ y e. sure_both b P Q ts y (h y e) (g y e)
+  sure_both (call r f) P Q ts x h g = λ v us y p. sure_both (f v) P Q us y (h v us y p.0) (g v us y p.1)
+  sure_both (strict r f) P Q ts x h g = λ v us y p. sure_both (f v) P Q us y (h v us y p.0) (g v us y p.1)
+  sure_both (scope n r f) P Q ts x h g = λ v us y p. sure_both (f v) P Q us (gauge.leaves x y) (h v us y p.0) (g v us y p.1)

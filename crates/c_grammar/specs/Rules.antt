@@ -1,7 +1,7 @@
 -- The rules of the grammar (C11 6.5 to 6.9, for what the subset keeps), as a parser reads them: each rule looks at one token
 -- to choose how it goes on.
 --
--- Each rule is given the names that are types. d counts the nodes that lie above what is read, so that a node read there has
+-- Each rule is given the names that are types, and those that may not be declared. d counts the nodes that lie above what is read, so that a node read there has
 -- depth d + 1. owed counts the nodes that the first token makes necessary and that were not counted before: those that stand
 -- in its place whatever follows are counted with the token that asks for them.
 use Rattle.std.specs.Prelude.{ℕ, suc, ◌+◌, Bool, true, false, ◌&&◌, ◌||◌, nat_le, List, [], ◌∷◌, ◌++◌, Option, Some, None, if◌then◌else◌}
@@ -17,7 +17,6 @@ use Rattle.c_tree.specs.declared.tree.Storage.{Storage}
 use Rattle.c_tree.specs.declared.tree.Storage.TheVariants as st
 use Rattle.c_tree.specs.declared.tree.Qual.TheVariants as q
 use Rattle.c_tree.specs.TypeWords.{TypeWord, of_void, of_char, of_short, of_int, of_long, of_signed, of_unsigned, of_whole, is_one_type, is_among, has_tag}
-use Rattle.c_tree.specs.DeclaredNames.{declarator_name, declared_inside}
 use Rattle.c_tree.specs.ExpressionShape.{op_level, level}
 use Rattle.c_tree.specs.Shape.{Scope, Place, of_loop, of_branch, of_block, of_switch, outside, behind_specifiers, behind_named, behind_item}
 use Rattle.c_tree.specs.Tree.{Name, Quals, Stars, Expression, comma, assign, choose, binary, cast, unary, before, size_of, size_of_type, index, call, dot, arrow, after, name, integer, character, text, paren, Expressions, no_expressions, expressions, Sizes, no_sizes, open_size, size, TypeTree, typed, Specifiers, no_specifiers, specifiers, Specifier, const_word, volatile_word, void_word, char_word, short_word, int_word, long_word, signed_word, unsigned_word, type_name, struct_tag, struct_of, enum_tag, enum_of, Members, no_members, member, Declarators, no_declarators, declarators, Enumerators, no_enumerators, enumerator, enumerator_with, DeclaratorTree, plain, array, function, pointer, Parameters, no_parameters, parameters, ParameterForm, named_form, bare_form, BareTree, bare_stars, bare_pointer, Initializer, single, listed, Initializers, no_initializers, initializers, NamedTree, DeclarationTree, ForStartTree, start_declaration, start_expression, StatementTree, block, declaration, expression_statement, if_statement, if_else_statement, while_statement, do_statement, for_statement, switch_statement, case_label, default_label, named_label, break_statement, continue_statement, return_statement, goto_statement, Statements, no_statements, statements, ItemTree, function_item, declaration_item}
@@ -27,8 +26,22 @@ use Rattle.c_grammar.specs.Kind.{same_kind}
 use Rattle.c_grammar.specs.Body.{Body, done, stop, look, take, spend, rise, scope}
 use Rattle.c_grammar.specs.Body as body
 
-abbrev pub Types : Type 0
-Types = List Name
+-- the names that are types, and those that are taken: they may be used, but not be declared
+pub record Types : Type 0 where
+  pub names : List Name
+  pub taken : List Name
+
+-- the names that may not be declared
+abbrev pub barred : Types → List Name
+barred t = t.taken ++ t.names
+
+-- behind this name in its own declarator: there the name of a type is taken
+abbrev pub inside : Bool → Name → Types → Types
+inside y n t = record { names = t.names; taken = if y then n ∷ [] else t.taken }
+
+-- these names are types, and none is taken
+abbrev pub only_types : List Name → Types
+only_types types = record { names = types; taken = [] }
 
 pub data Rule : Type 0 where
   -- an expression of at least a level: types, d, level, owed
@@ -46,8 +59,8 @@ pub data Rule : Type 0 where
   all_arguments : Types → ℕ → Rule
   more_arguments : Types → ℕ → Rule
   a_type : Types → ℕ → Rule
-  -- specifiers, behind those of these words
-  all_specifiers : Types → ℕ → List TypeWord → Rule
+  -- specifiers, behind those of these words; perhaps with a name to follow them, unless they have a struct or an enum
+  all_specifiers : Types → ℕ → Bool → List TypeWord → Rule
   -- behind the word struct
   a_struct : Types → ℕ → Rule
   -- the members of a struct, with the closing brace
@@ -62,8 +75,8 @@ pub data Rule : Type 0 where
   more_enumerators : Types → ℕ → Rule
   all_stars : Rule
   all_quals : Rule
-  -- a declarator, perhaps of a function, of none of these names
-  a_declarator : Types → ℕ → Bool → List Name → Rule
+  -- a declarator, perhaps of a function, perhaps of a type
+  a_declarator : Types → ℕ → Bool → Bool → Rule
   all_sizes : Types → ℕ → Rule
   at_most_one_size : Types → ℕ → Rule
   -- the parameters of a function, with the closing bracket
@@ -107,7 +120,7 @@ Result more_texts = List Name
 Result (all_arguments t d) = Expressions
 Result (more_arguments t d) = Expressions
 Result (a_type t d) = TypeTree
-Result (all_specifiers t d ws) = Specifiers
+Result (all_specifiers t d b ws) = Specifiers
 Result (a_struct t d) = Specifier
 Result (all_members t d) = Members
 Result (more_members t d) = Members
@@ -118,7 +131,7 @@ Result (all_enumerators t d) = Enumerators × Bool
 Result (more_enumerators t d) = Enumerators × Bool
 Result all_stars = Stars
 Result all_quals = Quals
-Result (a_declarator t d f ns) = DeclaratorTree
+Result (a_declarator t d f y) = DeclaratorTree
 Result (all_sizes t d) = Sizes
 Result (at_most_one_size t d) = Sizes
 Result (all_parameters t d) = Parameters × Bool
@@ -168,7 +181,11 @@ named_by ns f k.Name = take (λ n. if is_among ns n then stop else f n)
 named_by ns f _ = stop
 
 abbrev pub a_name : {A : Type 0} → Types → (Name → Reads A) → Reads A
-a_name t f = look t (named_by [] f)
+a_name t f = look t.names (named_by [] f)
+
+-- a name that may be declared
+abbrev pub a_new_name : {A : Type 0} → Types → (Name → Reads A) → Reads A
+a_new_name t f = look (barred t) (named_by [] f)
 
 -- ---- expressions
 
@@ -354,7 +371,7 @@ sized_by t d kind =
 
 -- behind sizeof
 abbrev pub sizeof_by : Types → ℕ → Kind → Reads Expression
-sizeof_by t d k.OpenParen = skip (look t (sized_by t d))
+sizeof_by t d k.OpenParen = skip (look t.names (sized_by t d))
 sizeof_by t d _ = do
   x ← an_expression t (d + 1) 15 1
   done (size_of x)
@@ -365,8 +382,8 @@ prefix_by t d least owed a_word = spend owed (d + 1) (take (λ n. done (name n))
 prefix_by t d least owed a_number = spend owed (d + 1) (take (λ n. done (integer n)))
 prefix_by t d least owed a_character = spend owed (d + 1) (take (λ n. done (character n)))
 prefix_by t d least owed a_text = spend owed (d + 1) (take (λ n. body.call more_texts (λ ns. done (text (n ∷ ns)))))
-prefix_by t d least owed an_open = spend (owed + 1) (d + 2) (skip (look t (opened_by t d least)))
-prefix_by t d least owed a_sizeof = spend owed (d + 1) (skip (look t (sizeof_by t d)))
+prefix_by t d least owed an_open = spend (owed + 1) (d + 2) (skip (look t.names (opened_by t d least)))
+prefix_by t d least owed a_sizeof = spend owed (d + 1) (skip (look t.names (sizeof_by t d)))
 prefix_by t d least owed (a_step o) = do
   spend (owed + 1) (d + 2)
   skip
@@ -465,26 +482,30 @@ ends_type ws = if is_one_type ws then done no_specifiers else stop
 abbrev pub with_word : List TypeWord → TypeWord → Reads Specifiers → Reads Specifiers
 with_word ws w f = if is_one_type (ws ++ w ∷ []) then f else ends_type ws
 
-abbrev pub specifiers_by : Types → ℕ → List TypeWord → Start → Reads Specifiers
-specifiers_by t d ws no_specifier = ends_type ws
-specifiers_by t d ws (a_qualifier x) = do
+-- the next token makes a name of depth d + 1 necessary, or does not
+abbrev pub naming : {A : Type 0} → Bool → ℕ → Reads A → Reads A
+naming b d f = if b then spend 1 (d + 1) f else f
+
+abbrev pub specifiers_by : Types → ℕ → Bool → List TypeWord → Start → Reads Specifiers
+specifiers_by t d b ws no_specifier = ends_type ws
+specifiers_by t d b ws (a_qualifier x) = do
   skip
-  xs ← all_specifiers t d ws
+  xs ← all_specifiers t d b ws
   done (specifiers x xs)
-specifiers_by t d ws (a_type_word w x) = with_word ws w (do
+specifiers_by t d b ws (a_type_word w x) = with_word ws w (naming b d (do
   skip
-  xs ← all_specifiers t d (ws ++ w ∷ [])
-  done (specifiers x xs))
-specifiers_by t d ws a_type_name = with_word ws of_whole (take (λ n. body.call (all_specifiers t d (ws ++ of_whole ∷ [])) (λ xs. done (specifiers (type_name n) xs))))
-specifiers_by t d ws a_struct_word = with_word ws of_whole (do
+  xs ← all_specifiers t d false (ws ++ w ∷ [])
+  done (specifiers x xs)))
+specifiers_by t d b ws a_type_name = with_word ws of_whole (naming b d (take (λ n. body.call (all_specifiers t d false (ws ++ of_whole ∷ [])) (λ xs. done (specifiers (type_name n) xs)))))
+specifiers_by t d b ws a_struct_word = with_word ws of_whole (do
   skip
   x ← a_struct t d
-  xs ← all_specifiers t d (ws ++ of_whole ∷ [])
+  xs ← all_specifiers t d false (ws ++ of_whole ∷ [])
   done (specifiers x xs))
-specifiers_by t d ws an_enum_word = with_word ws of_whole (do
+specifiers_by t d b ws an_enum_word = with_word ws of_whole (do
   skip
   x ← an_enum t d
-  xs ← all_specifiers t d (ws ++ of_whole ∷ [])
+  xs ← all_specifiers t d false (ws ++ of_whole ∷ [])
   done (specifiers x xs))
 
 -- the members, or the tag alone
@@ -516,7 +537,7 @@ abbrev pub more_declarators_by : Types → ℕ → Kind → Reads Declarators
 more_declarators_by t d k.Comma = do
   spend 1 (d + 1)
   skip
-  c ← a_declarator t (d + 1) false []
+  c ← a_declarator t (d + 1) false false
   cs ← more_declarators t d
   done (declarators c cs)
 more_declarators_by t d _ = done no_declarators
@@ -558,7 +579,7 @@ next_enumerator_by t d _ = stop
 
 abbrev pub more_enumerators_by : Types → ℕ → Kind → Reads (Enumerators × Bool)
 more_enumerators_by t d k.CloseBrace = skip (done (no_enumerators, false))
-more_enumerators_by t d k.Comma = skip (look t (next_enumerator_by t d))
+more_enumerators_by t d k.Comma = skip (look (barred t) (next_enumerator_by t d))
 more_enumerators_by t d _ = stop
 
 abbrev pub stars_by : Kind → Reads Stars
@@ -600,14 +621,14 @@ pointed t d ss qs n = do
   ps ← all_parameters t d
   done (pointer ss qs n xs ps.0 ps.1)
 
-abbrev pub declarator_by : Types → ℕ → Bool → List Name → Stars → Kind → Reads DeclaratorTree
-declarator_by t d f ns ss k.Name = take (λ n. look [] (declared_by t d f ss n))
-declarator_by t d f ns ss k.OpenParen = do
+abbrev pub declarator_by : Types → ℕ → Bool → Bool → Stars → Kind → Reads DeclaratorTree
+declarator_by t d f y ss k.Name = take (λ n. look [] (declared_by (inside y n t) d f ss n))
+declarator_by t d f y ss k.OpenParen = do
   skip
   expect k.Star
   qs ← all_quals
-  look (ns ++ t) (named_by [] (pointed t d ss qs))
-declarator_by t d f ns ss _ = stop
+  a_new_name t (λ n. pointed (inside y n t) d ss qs n)
+declarator_by t d f y ss _ = stop
 
 abbrev pub size_by : Types → ℕ → Kind → Reads Sizes
 size_by t d k.CloseBracket = do
@@ -621,7 +642,7 @@ size_by t d _ = do
   done (size x xs)
 
 abbrev pub sizes_by : Types → ℕ → Kind → Reads Sizes
-sizes_by t d k.OpenBracket = skip (look t (size_by t d))
+sizes_by t d k.OpenBracket = skip (look t.names (size_by t d))
 sizes_by t d _ = done no_sizes
 
 abbrev pub one_size_by : Types → ℕ → Kind → Reads Sizes
@@ -632,7 +653,7 @@ one_size_by t d _ = do
   done (size x no_sizes)
 
 abbrev pub at_most_one_by : Types → ℕ → Kind → Reads Sizes
-at_most_one_by t d k.OpenBracket = skip (look t (one_size_by t d))
+at_most_one_by t d k.OpenBracket = skip (look t.names (one_size_by t d))
 at_most_one_by t d _ = done no_sizes
 
 -- the one word void is the empty list
@@ -685,7 +706,7 @@ parameter_by t d ws ss k.OpenParen = do
   skip
   expect k.Star
   qs ← all_quals
-  look t (parameter_pointer_by t d ws ss qs)
+  look (barred t) (parameter_pointer_by t d ws ss qs)
 parameter_by t d ws ss _ = done (ws, bare_form (bare_stars ss))
 
 abbrev pub bare_by : Types → ℕ → Stars → Kind → Reads BareTree
@@ -730,7 +751,7 @@ next_initializer_by t d _ = do
 
 abbrev pub more_initializers_by : Types → ℕ → Kind → Reads (Initializers × Bool)
 more_initializers_by t d k.CloseBrace = skip (done (no_initializers, false))
-more_initializers_by t d k.Comma = skip (look t (next_initializer_by t d))
+more_initializers_by t d k.Comma = skip (look t.names (next_initializer_by t d))
 more_initializers_by t d _ = stop
 
 abbrev pub declaration_by : Types → ℕ → Kind → Reads DeclarationTree
@@ -746,11 +767,12 @@ declaration_by t d _ = do
   x ← a_declared t d st.Nothing
   done x
 
+-- where the specifiers have a struct or an enum, the first declarator makes a name necessary
 abbrev pub declared_names_by : Types → ℕ → Storage → Specifiers → Kind → Reads DeclarationTree
 declared_names_by t d c ws k.Semicolon = if has_tag ws then skip (done (record { storage = c; specs = ws; names = [] })) else stop
 declared_names_by t d c ws kind =
     if begins_declarator kind
-    then spend 1 (d + 1) (do
+    then naming (has_tag ws) d (do
       n ← a_named t d
       ns ← more_named t d
       done (record { storage = c; specs = ws; names = n ∷ ns }))
@@ -817,10 +839,18 @@ expressed t d owed = do
   expect k.Semicolon
   done (expression_statement (Some x))
 
+-- a statement that begins with a name as an expression goes on with it
+abbrev pub follows_name : Kind → Bool
+follows_name k.Semicolon = true
+follows_name kind = goes_on 1 (infix_of kind) 17
+
 -- behind a name that begins a statement in a block
 abbrev pub labelled_by : Types → ℕ → Name → Kind → Reads StatementTree
 labelled_by t d n k.Colon = skip (done (named_label n))
-labelled_by t d n _ = spend 1 (d + 2) (scope (d + 2) (a_rest t (d + 1) 1 (name n)) (λ x. expect k.Semicolon (done (expression_statement (Some x)))))
+labelled_by t d n kind =
+    if follows_name kind
+    then spend 1 (d + 2) (scope (d + 2) (a_rest t (d + 1) 1 (name n)) (λ x. expect k.Semicolon (done (expression_statement (Some x)))))
+    else stop
 
 abbrev pub statement_by : Types → ℕ → Place → ℕ → Kind → Reads StatementTree
 statement_by t d p owed k.OpenBrace = do
@@ -917,15 +947,14 @@ statements_by t d p _ = body.strict (a_statement t d p 1) (λ x. body.call (all_
 
 -- ---- outside functions
 
--- the names that a declarator outside functions may not declare: a type's name is new
-abbrev pub taken_names : Storage → Scope → List Name
-taken_names st.Typedef s = s.others
-taken_names _ s = []
+abbrev pub is_typedef : Storage → Bool
+is_typedef st.Typedef = true
+is_typedef _ = false
 
--- the name of a type stands for nothing that its own sizes and parameters declare
-abbrev pub clashes : Storage → DeclaratorTree → Bool
-clashes st.Typedef c = is_among (declared_inside c) (declarator_name c)
-clashes _ c = false
+-- where names are declared outside functions: the name of a type is new
+abbrev pub outer_types : Storage → Scope → Types
+outer_types st.Typedef s = record { names = s.types; taken = s.others }
+outer_types _ s = only_types s.types
 
 abbrev pub may_begin : Storage → DeclaratorTree → Bool
 may_begin st.Typedef c = false
@@ -945,10 +974,32 @@ abbrev pub is_function : DeclaratorTree → Bool
 is_function (function ss n ps v) = true
 is_function _ = false
 
--- behind the first declarator: the body of a function, or a declaration goes on and all lies one node deeper
+-- a declaration goes on with it behind its first declarator
+abbrev pub follows_first : DeclaratorTree → Kind → Bool
+follows_first c k.Assign = has_initializer c
+follows_first c k.Comma = true
+follows_first c k.Semicolon = true
+follows_first c _ = false
+
+-- behind the first declarator, which may be of a function: its body, or a declaration goes on and all lies one node deeper
 abbrev pub first_by : DeclaratorTree → Kind → Reads DeclaratorTree
 first_by c k.OpenBrace = if is_function c then done c else stop
-first_by c _ = rise (done c)
+first_by c kind = if follows_first c kind then rise (done c) else stop
+
+-- behind the stars and the name of the first declarator: an array is no function, and lies one node deeper
+abbrev pub first_declared_by : Types → Stars → Name → Kind → Reads DeclaratorTree
+first_declared_by t ss n k.OpenBracket = rise (declared_by t 3 false ss n k.OpenBracket)
+first_declared_by t ss n k.OpenParen = do
+  skip
+  ps ← all_parameters t 2
+  look [] (first_by (function ss n ps.0 ps.1))
+first_declared_by t ss n kind = first_by (plain ss n) kind
+
+-- behind its stars: a pointer to a function is no function either
+abbrev pub first_declarator_by : Types → Stars → Kind → Reads DeclaratorTree
+first_declarator_by t ss k.Name = take (λ n. look [] (first_declared_by t ss n))
+first_declarator_by t ss k.OpenParen = rise (declarator_by t 3 false false ss k.OpenParen)
+first_declarator_by t ss _ = stop
 
 abbrev pub function_of : Storage → Specifiers → Statements → DeclaratorTree → ItemTree
 function_of c ws ss (function xs n ps v) = function_item (record { storage = c; specs = ws; stars = xs; name = n; params = ps; word = v; body = block ss })
@@ -962,35 +1013,36 @@ with_names c ws s n = do
 
 -- behind the first declarator of an item that is no typedef
 abbrev pub item_by : Storage → Specifiers → Scope → DeclaratorTree → Kind → Reads ItemTree
-item_by c ws s x k.OpenBrace = do
+item_by c ws s x k.OpenBrace = if is_function x then (do
   skip
-  ss ← all_statements s.types 3 (of_block outside)
-  done (function_of c ws ss x)
+  ss ← all_statements (only_types s.types) 3 (of_block outside)
+  done (function_of c ws ss x)) else stop
 item_by c ws s x k.Assign = if has_initializer x then (do
   spend 1 4
   skip
-  i ← an_initializer s.types 3 0
+  i ← an_initializer (only_types s.types) 3 0
   with_names c ws s (record { declarator = x; init = Some i })) else stop
 item_by c ws s x _ = with_names c ws s (record { declarator = x; init = None })
 
--- behind the specifiers of an item
+-- behind the specifiers of an item, in the scope behind them; where these have a struct or an enum, the first declarator makes
+-- a name necessary, or a body
 abbrev pub item_names_by : Storage → Specifiers → Scope → Kind → Reads ItemTree
 item_names_by c ws s k.Semicolon = if has_tag ws then skip (done (declaration_item (record { storage = c; specs = ws; names = [] }))) else stop
 item_names_by st.Typedef ws s kind =
     if begins_declarator kind
-    then spend 1 3 (do
-      n ← an_outer st.Typedef (behind_specifiers ws s)
-      with_names st.Typedef ws (behind_specifiers ws s) n)
+    then naming (has_tag ws) 2 (do
+      n ← an_outer st.Typedef s
+      with_names st.Typedef ws s n)
     else stop
 item_names_by c ws s kind =
     if begins_declarator kind
-    then spend 1 3 (scope 2 (a_first s.types) (λ x. look [] (item_by c ws (behind_specifiers ws s) x)))
+    then naming (has_tag ws) 2 (scope 2 (a_first (only_types s.types)) (λ x. look [] (item_by c ws s x)))
     else stop
 
 abbrev pub item_specifiers : Storage → Scope → Reads ItemTree
 item_specifiers c s = do
-  ws ← all_specifiers s.types 2 []
-  look s.types (item_names_by c ws s)
+  ws ← all_specifiers (only_types s.types) 2 true []
+  look (barred (outer_types c (behind_specifiers ws s))) (item_names_by c ws (behind_specifiers ws s))
 
 abbrev pub item_start_by : Scope → Kind → Reads ItemTree
 item_start_by s k.Static = spend 1 2 (skip (item_specifiers st.Static s))
@@ -1008,76 +1060,76 @@ rule (a_whole t d least owed) = do
   x ← a_prefix t d least owed
   y ← a_rest t d least x
   done y
-rule (a_prefix t d least owed) = look t (λ kind. prefix_by t d least owed (first_of_operand kind))
-rule (a_rest t d least x) = look t (λ kind. if goes_on least (infix_of kind) (level x) then longer t d least x (infix_of kind) else done x)
+rule (a_prefix t d least owed) = look t.names (λ kind. prefix_by t d least owed (first_of_operand kind))
+rule (a_rest t d least x) = look t.names (λ kind. if goes_on least (infix_of kind) (level x) then longer t d least x (infix_of kind) else done x)
 rule (an_opened t d) = do
   x ← an_expression t (d + 1) 1 2
   expect k.CloseParen
   y ← a_rest t d 15 (paren x)
   done y
 rule more_texts = look [] texts_by
-rule (all_arguments t d) = look t (arguments_by t d)
+rule (all_arguments t d) = look t.names (arguments_by t d)
 rule (more_arguments t d) = look [] (more_arguments_by t d)
 rule (a_type t d) = do
-  ws ← all_specifiers t d []
+  ws ← all_specifiers t d false []
   x ← a_bare t d
   done (typed ws x)
-rule (all_specifiers t d ws) = look t (λ kind. specifiers_by t d ws (start_of kind))
+rule (all_specifiers t d b ws) = look t.names (λ kind. specifiers_by t d b ws (start_of kind))
 rule (a_struct t d) = look [] (struct_by t d)
 rule (all_members t d) = do
-  ws ← all_specifiers t d []
+  ws ← all_specifiers t d false []
   cs ← all_declarators t d
   expect k.Semicolon
   ms ← more_members t d
   done (member ws cs ms)
-rule (more_members t d) = look t (more_members_by t d)
+rule (more_members t d) = look t.names (more_members_by t d)
 rule (all_declarators t d) = do
-  c ← a_declarator t (d + 1) false []
+  c ← a_declarator t (d + 1) false false
   cs ← more_declarators t d
   done (declarators c cs)
 rule (more_declarators t d) = look [] (more_declarators_by t d)
 rule (an_enum t d) = look [] (enum_by t d)
-rule (all_enumerators t d) = a_name t (λ n. look [] (enumerator_by t d n))
+rule (all_enumerators t d) = a_new_name t (λ n. look [] (enumerator_by t d n))
 rule (more_enumerators t d) = look [] (more_enumerators_by t d)
 rule all_stars = look [] stars_by
 rule all_quals = look [] quals_by
-rule (a_declarator t d f ns) = do
+rule (a_declarator t d f y) = do
   ss ← all_stars
-  look (ns ++ t) (declarator_by t d f ns ss)
+  look (barred t) (declarator_by t d f y ss)
 rule (all_sizes t d) = look [] (sizes_by t d)
 rule (at_most_one_size t d) = look [] (at_most_one_by t d)
-rule (all_parameters t d) = look t (parameters_by t d)
+rule (all_parameters t d) = look t.names (parameters_by t d)
 rule (some_parameters t d) = scope d (a_parameter t d) (λ p. body.call (more_parameters t d) (λ ps. done (parameters p.0 p.1 ps)))
 rule (more_parameters t d) = look [] (more_parameters_by t d)
 rule (a_parameter t d) = do
-  ws ← all_specifiers t d []
+  ws ← all_specifiers t d false []
   ss ← all_stars
-  look t (parameter_by t d ws ss)
+  look (barred t) (parameter_by t d ws ss)
 rule (a_bare t d) = do
   ss ← all_stars
   look [] (bare_by t d ss)
-rule (an_initializer t d owed) = look t (initializer_by t d owed)
+rule (an_initializer t d owed) = look t.names (initializer_by t d owed)
 rule (all_initializers t d owed) = look [] (initializers_by t d owed)
 rule (more_initializers t d) = look [] (more_initializers_by t d)
-rule (a_declaration t d) = look t (declaration_by t d)
+rule (a_declaration t d) = look t.names (declaration_by t d)
 rule (a_declared t d c) = do
-  ws ← all_specifiers t d []
-  look t (declared_names_by t d c ws)
+  ws ← all_specifiers t d true []
+  look t.names (declared_names_by t d c ws)
 rule (a_named t d) = do
-  c ← a_declarator t (d + 1) true []
+  c ← a_declarator t (d + 1) true false
   look [] (named_init_by t (d + 1) (has_initializer c) c)
 rule (more_named t d) = look [] (more_named_by t d)
 rule (an_optional t d e) = look [] (optional_by t d e)
-rule (a_start t d) = look t (start_by t d)
-rule (a_statement t d p owed) = look t (statement_by t d p owed)
-rule (all_statements t d p) = look t (statements_by t d p)
+rule (a_start t d) = look t.names (start_by t d)
+rule (a_statement t d p owed) = look t.names (statement_by t d p owed)
+rule (all_statements t d p) = look t.names (statements_by t d p)
 rule (an_outer c s) = do
-  x ← a_declarator s.types 3 true (taken_names c s)
-  if clashes c x then stop else look [] (named_init_by s.types 3 (may_begin c x) x)
+  x ← a_declarator (outer_types c s) 3 true (is_typedef c)
+  look [] (named_init_by (outer_types c s) 3 (may_begin c x) x)
 rule (more_outer c s) = look [] (more_outer_by c s)
 rule (a_first t) = do
-  c ← a_declarator t 2 true []
-  look [] (first_by c)
+  ss ← all_stars
+  look (barred t) (first_declarator_by t ss)
 rule (an_item s) = look s.types (item_start_by s)
 rule (all_items s) = look [] (items_by s)
 
@@ -1091,7 +1143,7 @@ rank (a_type t d) = 3
 rank (all_members t d) = 4
 rank (more_members t d) = 5
 rank (all_declarators t d) = 3
-rank (a_declarator t d f ns) = 2
+rank (a_declarator t d f y) = 2
 rank (all_parameters t d) = 5
 rank (some_parameters t d) = 4
 rank (a_parameter t d) = 3

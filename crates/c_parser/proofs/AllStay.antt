@@ -1,9 +1,9 @@
 -- What is read within the limits is counted within them.
-use Rattle.std.proofs.Common.{◌≡◌, List, cond, [], ◌∷◌, arith}
+use Rattle.std.proofs.Common.{◌≡◌, false, List, cond, [], ◌∷◌, arith}
 use Rattle.c_tree.specs.declared.tree.Storage.{Storage}
 use Rattle.c_tree.specs.declared.tree.Storage.TheVariants as st
 use Rattle.c_tree.specs.TypeWords.{has_tag}
-use Rattle.c_tree.specs.Tree.{Specifiers, DeclaratorTree, NamedTree, ItemTree}
+use Rattle.c_tree.specs.Tree.{Name, Stars, Specifiers, DeclaratorTree, plain, function, NamedTree, ItemTree}
 use Rattle.c_tree.specs.Marks.{Tokens}
 use Rattle.c_tree.specs.Shape.{Scope, behind_specifiers, behind_item}
 use Rattle.c_grammar.specs.declared.kind.Kind.{Kind}
@@ -13,20 +13,19 @@ use Rattle.c_grammar.specs.Body as body
 use Rattle.c_grammar.specs.Gauge.{Meter, limited}
 use Rattle.c_grammar.specs.Input.{Input}
 use Rattle.c_grammar.specs.Reading.{read}
-use Rattle.c_grammar.specs.Rules.{Types, Rule, Result, rule, begins_type, begins_declarator, has_initializer, clashes, may_begin, more_outer_by, is_function, first_by, with_names, item_by, item_names_by, item_specifiers, item_start_by, items_by, an_expression, a_whole, a_prefix, a_rest, an_opened, more_texts, all_arguments, more_arguments, a_type, all_specifiers, a_struct, all_members, more_members, all_declarators, more_declarators, an_enum, all_enumerators, more_enumerators, all_stars, all_quals, a_declarator, all_sizes, at_most_one_size, all_parameters, some_parameters, more_parameters, a_parameter, a_bare, an_initializer, all_initializers, more_initializers, a_declaration, a_declared, a_named, more_named, an_optional, a_start, a_statement, all_statements, an_outer, more_outer, a_first, an_item, all_items}
+use Rattle.c_grammar.specs.Rules.{Types, Rule, Result, rule, only_types, outer_types, naming, begins_type, begins_declarator, has_initializer, may_begin, more_outer_by, is_function, follows_first, first_by, first_declared_by, first_declarator_by, with_names, item_by, item_names_by, item_specifiers, item_start_by, items_by, an_expression, a_whole, a_prefix, a_rest, an_opened, more_texts, all_arguments, more_arguments, a_type, all_specifiers, a_struct, all_members, more_members, all_declarators, more_declarators, an_enum, all_enumerators, more_enumerators, all_stars, all_quals, a_declarator, all_sizes, at_most_one_size, all_parameters, some_parameters, more_parameters, a_parameter, a_bare, an_initializer, all_initializers, more_initializers, a_declaration, a_declared, a_named, more_named, an_optional, a_start, a_statement, all_statements, an_outer, more_outer, a_first, an_item, all_items}
 use Rattle.c_grammar.proofs.Conditions.{Goes, all_go, go_done, go_stop, go_look, go_call, go_strict, go_scope, go_if}
 use Rattle.c_grammar.proofs.Limits.{Fits}
 use Rattle.c_grammar.proofs.Sure.{holds_got}
-use Rattle.c_parser.proofs.Staying.{Stays, Safe, Kept, fits-left, fits-entered, pays, lifts, skips}
+use Rattle.c_parser.proofs.Staying.{Stays, Safe, Kept, fits-left, fits-entered, pays, pays_name, lifts, skips}
 use Rattle.c_parser.proofs.StayingExpressions.{expression-kept, whole-kept, prefix-kept, rest-kept, opened-kept, texts-kept, arguments-kept, more-arguments-kept}
-use Rattle.c_parser.proofs.StayingTypes.{type-kept, specifiers-kept, struct-kept, members-kept, more-members-kept, declarators-kept, more-declarators-kept, enum-kept, enumerators-kept, more-enumerators-kept, stars-kept, quals-kept, declarator-kept, sizes-kept, at-most-one-kept, parameters-kept, some-parameters-kept, more-parameters-kept, parameter-kept, bare-kept}
+use Rattle.c_parser.proofs.StayingTypes.{type-kept, specifiers-kept, struct-kept, members-kept, more-members-kept, declarators-kept, more-declarators-kept, enum-kept, enumerators-kept, more-enumerators-kept, stars-kept, quals-kept, declarator-by, declarator-kept, sizes-kept, at-most-one-kept, parameters-kept, some-parameters-kept, more-parameters-kept, parameter-kept, bare-kept}
 use Rattle.c_parser.proofs.StayingStatements.{initializer-kept, initializers-kept, more-initializers-kept, declaration-kept, declared-kept, named-init-by, named-kept, more-named-kept, optional-kept, start-kept, statement-kept, statements-kept}
 
 -- ---- outside functions
 
 outer-kept : (c : Storage) (s : Scope) → Kept (an_outer c s)
-outer-kept c s ts m = go_call (λ x us n p. go_if {b = clashes c x} (λ yes. go_stop)
-    (λ no. go_look (λ e is. named-init-by s.types 3 (may_begin c x) x e us n _ (λ y vs o q f. q (p (omega arith) f)))))
+outer-kept c s ts m = go_call (λ x us n p. go_look (λ e is. named-init-by (outer_types c s) 3 (may_begin c x) x e us n _ (λ y vs o q f. q (p (omega arith) f))))
 
 more-outer-by : (c : Storage) (s : Scope) (e : Kind) (ts : Tokens) (m : Meter) → Safe (more_outer_by c s e) (Stays (more_outer c s) ts m) ts m
 more-outer-by c s k.Semicolon ts m = skips (λ _ us. go_done (λ f. f))
@@ -36,42 +35,57 @@ more-outer-by c s _ ts m = go_stop
 more-outer-kept : (c : Storage) (s : Scope) → Kept (more_outer c s)
 more-outer-kept c s ts m = go_look (λ e is. more-outer-by c s e ts m)
 
+-- behind the first declarator, where no body follows
+first-else : (t : Types) (c : DeclaratorTree) (e : Kind) (ts us : Tokens) (m n : Meter) → Safe (cond (follows_first c e) (body.rise (done c)) body.stop) (Stays (a_first t) ts m) us n
+first-else t c e ts us m n = go_if {b = follows_first c e} (λ yes. lifts (λ y g. go_done (λ f. g))) (λ no. go_stop)
+
 first-by : (t : Types) (c : DeclaratorTree) (e : Kind) (ts us : Tokens) (m n : Meter) → (Fits m → Fits n) → Safe (first_by c e) (Stays (a_first t) ts m) us n
 first-by t c k.OpenBrace ts us m n h = go_if {b = is_function c} (λ yes. go_done h) (λ no. go_stop)
-first-by t c _ ts us m n h = lifts (λ y g. go_done (λ f. g))
+first-by t c e ts us m n h = first-else t c e ts us m n
+
+first-declared-by : (t : Types) (ss : Stars) (a : Name) (e : Kind) (ts us : Tokens) (m n : Meter) → (Fits m → Fits n) → Safe (first_declared_by t ss a e) (Stays (a_first t) ts m) us n
+first-declared-by t ss a k.OpenBracket ts us m n h = lifts (λ y g. go_call (λ xs vs o p. go_done (λ f. p g)))
+first-declared-by t ss a k.OpenParen ts us m n h =
+    skips (λ _ vs. go_call (λ ps ws o p. go_look (λ e is. first-by t (function ss a ps.0 ps.1) e ts ws m o (λ f. p (omega arith) (h f)))))
+first-declared-by t ss a e ts us m n h = first-by t (plain ss a) e ts us m n h
+
+first-declarator-by : (t : Types) (ss : Stars) (e : Kind) (ts us : Tokens) (m n : Meter) → (Fits m → Fits n) → Safe (first_declarator_by t ss e) (Stays (a_first t) ts m) us n
+first-declarator-by t ss k.Name ts us m n h = skips (λ a vs. go_look (λ e is. first-declared-by t ss a e ts vs m n h))
+first-declarator-by t ss k.OpenParen ts us m n h = lifts (λ y g. declarator-by t 3 false false ss k.OpenParen us y _ (λ x vs o p f. p (omega arith) g))
+first-declarator-by t ss _ ts us m n h = go_stop
 
 first-kept : (t : Types) → Kept (a_first t)
-first-kept t ts m = go_call (λ c us n p. go_look (λ e is. first-by t c e ts us m n (λ f. p (omega arith) f)))
+first-kept t ts m = go_call (λ ss us n p. go_look (λ e is. first-declarator-by t ss e ts us m n p))
 
 with-names : (c : Storage) (ws : Specifiers) (s : Scope) (x : NamedTree) (ts us : Tokens) (m n : Meter) → Fits n → Safe (with_names c ws s x) (Stays (an_item s) ts m) us n
 with-names c ws s x ts us m n g = go_call (λ xs vs o p. go_done (λ f. p g))
 
 item-by : (c : Storage) (ws : Specifiers) (s : Scope) (x : DeclaratorTree) (e : Kind) (ts us : Tokens) (m n : Meter) → Fits n → Safe (item_by c ws s x e) (Stays (an_item s) ts m) us n
-item-by c ws s x k.OpenBrace ts us m n g = skips (λ _ vs. go_call (λ ss xs o p. go_done (λ f. p g)))
+item-by c ws s x k.OpenBrace ts us m n g = go_if {b = is_function x} (λ yes. skips (λ _ vs. go_call (λ ss xs o p. go_done (λ f. p g)))) (λ no. go_stop)
 item-by c ws s x k.Assign ts us m n g = go_if {b = has_initializer x}
     (λ yes. pays (λ y deep i. skips (λ _ vs. go_call (λ j xs o p. with-names c ws s _ ts xs m o (p i)))))
     (λ no. go_stop)
 item-by c ws s x _ ts us m n g = with-names c ws s _ ts us m n g
 
-typedef-first : (ws : Specifiers) (s : Scope) (e : Kind) (ts us : Tokens) (m n : Meter) →
-    Safe (cond (begins_declarator e) (body.spend 1 3 (body.call (an_outer st.Typedef (behind_specifiers ws s)) (λ x. with_names st.Typedef ws (behind_specifiers ws s) x))) body.stop) (Stays (an_item s) ts m) us n
-typedef-first ws s e ts us m n = go_if {b = begins_declarator e}
-    (λ yes. pays (λ y deep g. go_call (λ x vs o p. with-names st.Typedef ws (behind_specifiers ws s) x ts vs m o (p g))))
+typedef-first : (ws : Specifiers) (s : Scope) (e : Kind) (ts us : Tokens) (m n : Meter) → Fits n →
+    Safe (cond (begins_declarator e) (naming (has_tag ws) 2 (body.call (an_outer st.Typedef s) (λ x. with_names st.Typedef ws s x))) body.stop) (Stays (an_item s) ts m) us n
+typedef-first ws s e ts us m n g = go_if {b = begins_declarator e}
+    (λ yes. pays_name (has_tag ws) 2 (λ y deep h. go_call (λ x vs o p. with-names st.Typedef ws s x ts vs m o (p (h g)))))
     (λ no. go_stop)
 
-declarator-first : (c : Storage) (ws : Specifiers) (s : Scope) (e : Kind) (ts us : Tokens) (m n : Meter) →
-    Safe (cond (begins_declarator e) (body.spend 1 3 (body.scope 2 (a_first s.types) (λ x. body.look [] (item_by c ws (behind_specifiers ws s) x)))) body.stop) (Stays (an_item s) ts m) us n
-declarator-first c ws s e ts us m n = go_if {b = begins_declarator e}
-    (λ yes. pays (λ y deep g. go_scope (λ x vs o p. go_look (λ j is. item-by c ws (behind_specifiers ws s) x j ts vs m _ (fits-left y o g.peak (p (fits-entered 2 y (omega arith) g)))))))
+declarator-first : (c : Storage) (ws : Specifiers) (s : Scope) (e : Kind) (ts us : Tokens) (m n : Meter) → Fits n →
+    Safe (cond (begins_declarator e) (naming (has_tag ws) 2 (body.scope 2 (a_first (only_types s.types)) (λ x. body.look [] (item_by c ws s x)))) body.stop) (Stays (an_item s) ts m) us n
+declarator-first c ws s e ts us m n g = go_if {b = begins_declarator e}
+    (λ yes. pays_name (has_tag ws) 2 (λ y deep h. let i = h g in go_scope (λ x vs o p. go_look (λ j is. item-by c ws s x j ts vs m _ (fits-left y o i.peak (p (fits-entered 2 y (omega arith) i)))))))
     (λ no. go_stop)
 
 item-names-by : (c : Storage) (ws : Specifiers) (s : Scope) (e : Kind) (ts us : Tokens) (m n : Meter) → Fits n → Safe (item_names_by c ws s e) (Stays (an_item s) ts m) us n
 item-names-by c ws s k.Semicolon ts us m n g = go_if {b = has_tag ws} (λ yes. skips (λ _ vs. go_done (λ f. g))) (λ no. go_stop)
-item-names-by st.Typedef ws s e ts us m n g = typedef-first ws s e ts us m n
-item-names-by c ws s e ts us m n g = declarator-first c ws s e ts us m n
+item-names-by st.Typedef ws s e ts us m n g = typedef-first ws s e ts us m n g
+item-names-by c ws s e ts us m n g = declarator-first c ws s e ts us m n g
 
 item-specifiers : (c : Storage) (s : Scope) (ts us : Tokens) (m n : Meter) → Fits n → Safe (item_specifiers c s) (Stays (an_item s) ts m) us n
-item-specifiers c s ts us m n g = go_call (λ ws vs o p. go_look (λ e is. item-names-by c ws s e ts vs m o (p g)))
+item-specifiers c s ts us m n g = go_call (λ ws vs o p. go_look (λ e is. item-names-by c ws (behind_specifiers ws s) e ts vs m o (p.0 g)))
 
 item-plain : (s : Scope) (e : Kind) (ts : Tokens) (m : Meter) → Safe (cond (begins_type e) (body.spend 1 2 (item_specifiers st.Nothing s)) body.stop) (Stays (an_item s) ts m) ts m
 item-plain s e ts m = go_if {b = begins_type e} (λ yes. pays (λ y deep g. item-specifiers st.Nothing s ts ts m y g)) (λ no. go_stop)
@@ -107,7 +121,7 @@ all_stay more_texts ts m = texts-kept ts m
 all_stay (all_arguments t d) ts m = arguments-kept t d ts m
 all_stay (more_arguments t d) ts m = more-arguments-kept t d ts m
 all_stay (a_type t d) ts m = type-kept t d ts m
-all_stay (all_specifiers t d ws) ts m = specifiers-kept t d ws ts m
+all_stay (all_specifiers t d b ws) ts m = specifiers-kept t d b ws ts m
 all_stay (a_struct t d) ts m = struct-kept t d ts m
 all_stay (all_members t d) ts m = members-kept t d ts m
 all_stay (more_members t d) ts m = more-members-kept t d ts m
@@ -118,7 +132,7 @@ all_stay (all_enumerators t d) ts m = enumerators-kept t d ts m
 all_stay (more_enumerators t d) ts m = more-enumerators-kept t d ts m
 all_stay all_stars ts m = stars-kept ts m
 all_stay all_quals ts m = quals-kept ts m
-all_stay (a_declarator t d f ns) ts m = declarator-kept t d f ns ts m
+all_stay (a_declarator t d f y) ts m = declarator-kept t d f y ts m
 all_stay (all_sizes t d) ts m = sizes-kept t d ts m
 all_stay (at_most_one_size t d) ts m = at-most-one-kept t d ts m
 all_stay (all_parameters t d) ts m = parameters-kept t d ts m

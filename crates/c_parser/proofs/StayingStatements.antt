@@ -1,5 +1,5 @@
 -- What the rules of initialisers, declarations and statements keep.
-use Rattle.std.proofs.Common.{ℕ, ◌+◌, Bool, [], ◌∷◌, cond, ◌||◌, Some}
+use Rattle.std.proofs.Common.{◌≡◌, ℕ, ◌+◌, ◌≤◌, Bool, false, [], ◌∷◌, cond, ◌||◌, Some, refl}
 use Rattle.c_tree.specs.declared.tree.Storage.{Storage}
 use Rattle.c_tree.specs.TypeWords.{has_tag}
 use Rattle.c_tree.specs.Tree.{Name, Expression, name, Specifiers, DeclaratorTree, NamedTree, StatementTree, declaration, expression_statement}
@@ -11,7 +11,7 @@ use Rattle.c_grammar.specs.Kind.{same_kind}
 use Rattle.c_grammar.specs.Body.{done}
 use Rattle.c_grammar.specs.Body as body
 use Rattle.c_grammar.specs.Gauge.{Meter}
-use Rattle.c_grammar.specs.Rules.{Types, a_rest, begins_declaration, begins_declarator, has_initializer, initializer_by, initializers_by, next_initializer_by, more_initializers_by, declaration_by, declared_names_by, named_init_by, more_named_by, else_by, expressed, labelled_by, statement_by, statements_by, an_initializer, all_initializers, more_initializers, a_declaration, a_declared, a_named, more_named, an_optional, a_start, a_statement, all_statements}
+use Rattle.c_grammar.specs.Rules.{Types, naming, follows_name, a_rest, begins_declaration, begins_declarator, has_initializer, initializer_by, initializers_by, next_initializer_by, more_initializers_by, declaration_by, declared_names_by, named_init_by, more_named_by, else_by, expressed, labelled_by, statement_by, statements_by, an_initializer, all_initializers, more_initializers, a_declaration, a_declared, a_named, more_named, an_optional, a_start, a_statement, all_statements}
 use Rattle.c_grammar.proofs.Conditions.{go_done, go_stop, go_look, go_call, go_strict, go_scope, go_if}
 use Rattle.c_grammar.proofs.Limits.{Fits}
 use Rattle.c_parser.proofs.Staying.{Stays, Safe, Kept, fits-left, fits-entered, pays, skips, wants, a_name_taken}
@@ -55,19 +55,25 @@ declaration-by t d _ ts m = go_call (λ x us n p. go_done p)
 pub declaration-kept : (t : Types) (d : ℕ) → Kept (a_declaration t d)
 declaration-kept t d ts m = go_look (λ e is. declaration-by t d e ts m)
 
-some-names : (t : Types) (d : ℕ) (c : Storage) (ws : Specifiers) (e : Kind) (ts us : Tokens) (m n : Meter) →
-    Safe (cond (begins_declarator e) (body.spend 1 (d + 1) (body.call (a_named t d) (λ x. body.call (more_named t d) (λ xs. done (record { storage = c; specs = ws; names = x ∷ xs }))))) body.stop) (Stays (a_declared t d c) ts m) us n
-some-names t d c ws e ts us m n = go_if {b = begins_declarator e}
-    (λ yes. pays (λ y deep g. go_call (λ x vs o p. go_call (λ xs ys z q. go_done (λ f. q (p deep g))))))
+-- the names behind the specifiers
+all-names : (t : Types) (d : ℕ) (c : Storage) (ws : Specifiers) (ts us : Tokens) (m n : Meter) → d + 1 ≤ 1000 → (Fits m → Fits n) →
+    Safe (body.call (a_named t d) (λ x. body.call (more_named t d) (λ xs. done (record { storage = c; specs = ws; names = x ∷ xs })))) (Stays (a_declared t d c) ts m) us n
+all-names t d c ws ts us m n deep h = go_call (λ x vs o p. go_call (λ xs ys z q. go_done (λ f. q (p deep (h f)))))
+
+some-names : (t : Types) (d : ℕ) (c : Storage) (ws : Specifiers) (e : Kind) (ts us : Tokens) (m n : Meter) → (Fits m → Fits n) → (has_tag ws ≡ false → d + 1 ≤ 1000) →
+    Safe (cond (begins_declarator e) (naming (has_tag ws) d (body.call (a_named t d) (λ x. body.call (more_named t d) (λ xs. done (record { storage = c; specs = ws; names = x ∷ xs }))))) body.stop)
+    (Stays (a_declared t d c) ts m) us n
+some-names t d c ws e ts us m n h first = go_if {b = begins_declarator e}
+    (λ yes. go_if {b = has_tag ws} (λ tag. pays (λ y deep g. all-names t d c ws ts us m y deep (λ f. g))) (λ none. all-names t d c ws ts us m n (first none) h))
     (λ no. go_stop)
 
-declared-names-by : (t : Types) (d : ℕ) (c : Storage) (ws : Specifiers) (e : Kind) (ts us : Tokens) (m n : Meter) → (Fits m → Fits n) →
+declared-names-by : (t : Types) (d : ℕ) (c : Storage) (ws : Specifiers) (e : Kind) (ts us : Tokens) (m n : Meter) → (Fits m → Fits n) → (has_tag ws ≡ false → d + 1 ≤ 1000) →
     Safe (declared_names_by t d c ws e) (Stays (a_declared t d c) ts m) us n
-declared-names-by t d c ws k.Semicolon ts us m n h = go_if {b = has_tag ws} (λ yes. skips (λ _ vs. go_done h)) (λ no. go_stop)
-declared-names-by t d c ws e ts us m n h = some-names t d c ws e ts us m n
+declared-names-by t d c ws k.Semicolon ts us m n h first = go_if {b = has_tag ws} (λ yes. skips (λ _ vs. go_done h)) (λ no. go_stop)
+declared-names-by t d c ws e ts us m n h first = some-names t d c ws e ts us m n h first
 
 pub declared-kept : (t : Types) (d : ℕ) (c : Storage) → Kept (a_declared t d c)
-declared-kept t d c ts m = go_call (λ ws us n p. go_look (λ e is. declared-names-by t d c ws e ts us m n p))
+declared-kept t d c ts m = go_call (λ ws us n p. go_look (λ e is. declared-names-by t d c ws e ts us m n p.0 (p.1 refl refl)))
 
 -- behind a declarator, inside a function or not
 pub named-init-by : (t : Types) (d : ℕ) (may : Bool) (c : DeclaratorTree) (e : Kind) (us : Tokens) (n : Meter) (Q : NamedTree → Tokens → Meter → Type 0) →
@@ -106,14 +112,18 @@ else-by t d p o x y _ ts us m n g = go_done (λ f. g)
 expressed-by : (t : Types) (d : ℕ) (p : Place) (o : ℕ) (ts : Tokens) (m : Meter) → Safe (expressed t d o) (Stays (a_statement t d p o) ts m) ts m
 expressed-by t d p o ts m = go_call (λ x us n q. wants k.Semicolon (λ vs. go_done (λ f. q.1 f.peak)))
 
-labelled-rest : (t : Types) (d : ℕ) (p : Place) (o : ℕ) (a : Name) (ts us : Tokens) (m n : Meter) →
-    Safe (body.spend 1 (d + 2) (body.scope (d + 2) (a_rest t (d + 1) 1 (name a)) (λ x. body.look [] (λ j. cond (same_kind j k.Semicolon) (body.take (λ b. done (expression_statement (Some x)))) body.stop)))) (Stays (a_statement t d p o) ts m) us n
-labelled-rest t d p o a ts us m n = pays (λ y deep g. go_scope (λ x vs q h. wants k.Semicolon (λ ws. go_done (λ f. fits-left y q g.peak (h (fits-entered (d + 2) y deep g))))))
+labelled-rest : (t : Types) (d : ℕ) (p : Place) (o : ℕ) (a : Name) (e : Kind) (ts us : Tokens) (m n : Meter) →
+    Safe (cond (follows_name e) (body.spend 1 (d + 2) (body.scope (d + 2) (a_rest t (d + 1) 1 (name a))
+    (λ x. body.look [] (λ j. cond (same_kind j k.Semicolon) (body.take (λ b. done (expression_statement (Some x)))) body.stop)))) body.stop)
+    (Stays (a_statement t d p o) ts m) us n
+labelled-rest t d p o a e ts us m n = go_if {b = follows_name e}
+    (λ yes. pays (λ y deep g. go_scope (λ x vs q h. wants k.Semicolon (λ ws. go_done (λ f. fits-left y q g.peak (h (fits-entered (d + 2) y deep g)))))))
+    (λ no. go_stop)
 
 labelled-by : (t : Types) (d : ℕ) (p : Place) (o : ℕ) (a : Name) (e : Kind) (ts us : Tokens) (m n : Meter) → Fits n →
     Safe (labelled_by t d a e) (Stays (a_statement t d p o) ts m) us n
 labelled-by t d p o a k.Colon ts us m n g = skips (λ _ vs. go_done (λ f. g))
-labelled-by t d p o a _ ts us m n g = labelled-rest t d p o a ts us m n
+labelled-by t d p o a e ts us m n g = labelled-rest t d p o a e ts us m n
 
 -- a declaration or an expression
 statement-else : (t : Types) (d : ℕ) (p : Place) (o : ℕ) (e : Kind) (ts : Tokens) (m : Meter) →

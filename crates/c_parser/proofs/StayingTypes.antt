@@ -1,57 +1,79 @@
 -- What the rules of types and declarators keep.
-use Rattle.std.proofs.Common.{ℕ, ◌+◌, Bool, List, [], ◌∷◌, ◌++◌, cond}
-use Rattle.c_tree.specs.Tree.{Name, Quals, Stars, Specifiers}
-use Rattle.c_tree.specs.TypeWords.{TypeWord, of_whole, is_one_type}
+use Rattle.std.proofs.Common.{◌≡◌, ℕ, ◌+◌, ◌≤◌, Bool, true, false, List, [], ◌∷◌, ◌++◌, cond, refl}
+use Rattle.c_tree.specs.Tree.{Name, Quals, Stars, DeclaratorTree, Specifiers, no_specifiers, specifiers, Specifier, struct_tag, struct_of, enum_tag, enum_of}
+use Rattle.c_tree.specs.TypeWords.{TypeWord, of_whole, is_one_type, has_tag}
 use Rattle.c_tree.specs.Marks.{Tokens}
 use Rattle.c_grammar.specs.declared.kind.Kind.{Kind}
 use Rattle.c_grammar.specs.declared.kind.Kind.TheVariants as k
 use Rattle.c_grammar.specs.Body.{done}
 use Rattle.c_grammar.specs.Body as body
 use Rattle.c_grammar.specs.Gauge.{Meter}
-use Rattle.c_grammar.specs.Rules.{Types, Reads, Start, no_specifier, a_qualifier, a_type_word, a_type_name, a_struct_word, an_enum_word, start_of, begins_type, ends_type, with_word, specifiers_by, struct_body_by, struct_by, more_members_by, more_declarators_by, enum_body_by, enum_by, enumerator_by, next_enumerator_by, more_enumerators_by, stars_by, quals_by, declared_by, pointed, declarator_by, size_by, sizes_by, one_size_by, at_most_one_by, parameters_by, more_parameters_by, parameter_name_by, parameter_pointer_by, parameter_by, bare_by, a_type, all_specifiers, a_struct, all_members, more_members, all_declarators, more_declarators, an_enum, all_enumerators, more_enumerators, all_stars, all_quals, a_declarator, all_sizes, at_most_one_size, all_parameters, some_parameters, more_parameters, a_parameter, a_bare}
+use Rattle.c_grammar.specs.Rules.{Types, Reads, inside, Start, no_specifier, a_qualifier, a_type_word, a_type_name, a_struct_word, an_enum_word, start_of, begins_type, ends_type, with_word, specifiers_by, struct_body_by, struct_by, more_members_by, more_declarators_by, enum_body_by, enum_by, enumerator_by, next_enumerator_by, more_enumerators_by, stars_by, quals_by, declared_by, pointed, declarator_by, size_by, sizes_by, one_size_by, at_most_one_by, parameters_by, more_parameters_by, parameter_name_by, parameter_pointer_by, parameter_by, bare_by, a_type, all_specifiers, a_struct, all_members, more_members, all_declarators, more_declarators, an_enum, all_enumerators, more_enumerators, all_stars, all_quals, a_declarator, all_sizes, at_most_one_size, all_parameters, some_parameters, more_parameters, a_parameter, a_bare}
 use Rattle.c_grammar.proofs.Conditions.{go_done, go_stop, go_look, go_call, go_scope, go_if}
 use Rattle.c_grammar.proofs.Limits.{Fits}
-use Rattle.c_parser.proofs.Staying.{Stays, Safe, Kept, fits-left, fits-entered, pays, lifts, skips, wants, names, a_name_taken}
+use Rattle.c_parser.proofs.Staying.{Stays, Safe, Kept, fits-left, fits-entered, pays, pays_name, lifts, skips, wants, a_name_taken}
 
 pub type-kept : (t : Types) (d : ℕ) → Kept (a_type t d)
-type-kept t d ts m = go_call (λ ws us n p. go_call (λ x vs o q. go_done (λ deep f. q deep (p f))))
+type-kept t d ts m = go_call (λ ws us n p. go_call (λ x vs o q. go_done (λ deep f. q deep (p.0 f))))
 
 -- ---- specifiers
 
-ends : (t : Types) (d : ℕ) (ws : List TypeWord) (ts : Tokens) (m : Meter) → Safe (ends_type ws) (Stays (all_specifiers t d ws) ts m) ts m
-ends t d ws ts m = go_if {b = is_one_type ws} (λ yes. go_done (λ f. f)) (λ no. go_stop)
+tagged : (x : Specifier) (xs : Specifiers) → has_tag (specifiers x no_specifiers) ≡ true → has_tag (specifiers x xs) ≡ true
+tagged (struct_tag n) xs h = refl
+tagged (struct_of t ms) xs h = refl
+tagged (enum_tag n) xs h = refl
+tagged (enum_of t es c) xs h = refl
+tagged _ xs h = absurd cc
 
-goes-on : (t : Types) (d : ℕ) (ws : List TypeWord) (w : TypeWord) (b : Reads Specifiers) (ts : Tokens) (m : Meter) → Safe b (Stays (all_specifiers t d ws) ts m) ts m →
-    Safe (with_word ws w b) (Stays (all_specifiers t d ws) ts m) ts m
-goes-on t d ws w b ts m h = go_if {b = is_one_type (ws ++ w ∷ [])} (λ yes. h) (λ no. ends t d ws ts m)
+untagged : (x : Specifier) (xs : Specifiers) → has_tag (specifiers x xs) ≡ false → has_tag xs ≡ false
+untagged (struct_tag n) xs h = absurd cc
+untagged (struct_of t ms) xs h = absurd cc
+untagged (enum_tag n) xs h = absurd cc
+untagged (enum_of t es c) xs h = absurd cc
+untagged _ xs h = h
 
-specifiers-by : (t : Types) (d : ℕ) (ws : List TypeWord) (i : Start) (ts : Tokens) (m : Meter) → Safe (specifiers_by t d ws i) (Stays (all_specifiers t d ws) ts m) ts m
-specifiers-by t d ws no_specifier ts m = ends t d ws ts m
-specifiers-by t d ws (a_qualifier x) ts m = skips (λ _ us. go_call (λ xs vs n p. go_done p))
-specifiers-by t d ws (a_type_word w x) ts m = goes-on t d ws w _ ts m (skips (λ _ us. go_call (λ xs vs n p. go_done p)))
-specifiers-by t d ws a_type_name ts m = goes-on t d ws of_whole _ ts m (skips (λ _ us. go_call (λ xs vs n p. go_done p)))
-specifiers-by t d ws a_struct_word ts m = goes-on t d ws of_whole _ ts m (skips (λ _ us. go_call (λ x vs n p. go_call (λ xs xs' o q. go_done (λ f. q (p f))))))
-specifiers-by t d ws an_enum_word ts m = goes-on t d ws of_whole _ ts m (skips (λ _ us. go_call (λ x vs n p. go_call (λ xs xs' o q. go_done (λ f. q (p f))))))
+-- a struct or an enum makes no name necessary
+tag-alone : (d : ℕ) (x : Specifier) (xs : Specifiers) → has_tag (specifiers x no_specifiers) ≡ true → has_tag (specifiers x xs) ≡ false → d + 1 ≤ 1000
+tag-alone d x xs tag none = let has = tagged x xs tag in absurd cc
 
-pub specifiers-kept : (t : Types) (d : ℕ) (ws : List TypeWord) → Kept (all_specifiers t d ws)
-specifiers-kept t d ws ts m = go_look (λ e is. specifiers-by t d ws (start_of e) ts m)
+ends : (t : Types) (d : ℕ) (b : Bool) (ws : List TypeWord) (ts : Tokens) (m : Meter) → Safe (ends_type ws) (Stays (all_specifiers t d b ws) ts m) ts m
+ends t d b ws ts m = go_if {b = is_one_type ws} (λ yes. go_done (λ f. f, λ e none tag. absurd cc)) (λ no. go_stop)
+
+goes-on : (t : Types) (d : ℕ) (b : Bool) (ws : List TypeWord) (w : TypeWord) (f : Reads Specifiers) (ts : Tokens) (m : Meter) → Safe f (Stays (all_specifiers t d b ws) ts m) ts m →
+    Safe (with_word ws w f) (Stays (all_specifiers t d b ws) ts m) ts m
+goes-on t d b ws w f ts m h = go_if {b = is_one_type (ws ++ w ∷ [])} (λ yes. h) (λ no. ends t d b ws ts m)
+
+specifiers-by : (t : Types) (d : ℕ) (b : Bool) (ws : List TypeWord) (i : Start) (ts : Tokens) (m : Meter) → Safe (specifiers_by t d b ws i) (Stays (all_specifiers t d b ws) ts m) ts m
+specifiers-by t d b ws no_specifier ts m = ends t d b ws ts m
+specifiers-by t d b ws (a_qualifier x) ts m = skips (λ _ us. go_call (λ xs vs n p. go_done (p.0, λ e none tag. p.1 e none (untagged x xs tag))))
+specifiers-by t d b ws (a_type_word w x) ts m =
+    goes-on t d b ws w _ ts m (pays_name b d (λ y deep g. skips (λ _ us. go_call (λ xs vs n p. go_done (λ f. p.0 (g f), λ e none tag. deep e)))))
+specifiers-by t d b ws a_type_name ts m =
+    goes-on t d b ws of_whole _ ts m (pays_name b d (λ y deep g. skips (λ _ us. go_call (λ xs vs n p. go_done (λ f. p.0 (g f), λ e none tag. deep e)))))
+specifiers-by t d b ws a_struct_word ts m =
+    goes-on t d b ws of_whole _ ts m (skips (λ _ us. go_call (λ x vs n p. go_call (λ xs ws' o q. go_done (λ f. q.0 (p.0 f), λ e none tag. tag-alone d x xs p.1 tag)))))
+specifiers-by t d b ws an_enum_word ts m =
+    goes-on t d b ws of_whole _ ts m (skips (λ _ us. go_call (λ x vs n p. go_call (λ xs ws' o q. go_done (λ f. q.0 (p.0 f), λ e none tag. tag-alone d x xs p.1 tag)))))
+
+pub specifiers-kept : (t : Types) (d : ℕ) (b : Bool) (ws : List TypeWord) → Kept (all_specifiers t d b ws)
+specifiers-kept t d b ws ts m = go_look (λ e is. specifiers-by t d b ws (start_of e) ts m)
 
 -- ---- structs and enumerations
 
 struct-body-by : (t : Types) (d : ℕ) (a : Name) (e : Kind) (ts us : Tokens) (m : Meter) → Safe (struct_body_by t d a e) (Stays (a_struct t d) ts m) us m
-struct-body-by t d a k.OpenBrace ts us m = pays (λ y deep g. skips (λ _ vs. go_call (λ ms ws n p. go_done (λ f. p deep g))))
-struct-body-by t d a _ ts us m = go_done (λ f. f)
+struct-body-by t d a k.OpenBrace ts us m = pays (λ y deep g. skips (λ _ vs. go_call (λ ms ws n p. go_done (λ f. p deep g, refl))))
+struct-body-by t d a _ ts us m = go_done (λ f. f, refl)
 
 struct-by : (t : Types) (d : ℕ) (e : Kind) (ts : Tokens) (m : Meter) → Safe (struct_by t d e) (Stays (a_struct t d) ts m) ts m
 struct-by t d k.Name ts m = skips (λ a us. go_look (λ e is. struct-body-by t d a e ts us m))
-struct-by t d k.OpenBrace ts m = pays (λ y deep g. skips (λ _ vs. go_call (λ ms ws n p. go_done (λ f. p deep g))))
+struct-by t d k.OpenBrace ts m = pays (λ y deep g. skips (λ _ vs. go_call (λ ms ws n p. go_done (λ f. p deep g, refl))))
 struct-by t d _ ts m = go_stop
 
 pub struct-kept : (t : Types) (d : ℕ) → Kept (a_struct t d)
 struct-kept t d ts m = go_look (λ e is. struct-by t d e ts m)
 
 pub members-kept : (t : Types) (d : ℕ) → Kept (all_members t d)
-members-kept t d ts m = go_call (λ ws us n p. go_call (λ cs vs o q. wants k.Semicolon (λ xs. go_call (λ ms ys z r. go_done (λ deep f. r (q deep (p f)))))))
+members-kept t d ts m = go_call (λ ws us n p. go_call (λ cs vs o q. wants k.Semicolon (λ xs. go_call (λ ms ys z r. go_done (λ deep f. r (q deep (p.0 f)))))))
 
 another-member : (t : Types) (d : ℕ) (e : Kind) (ts : Tokens) (m : Meter) → Safe (cond (begins_type e) (body.spend 1 (d + 1) (body.call (all_members t d) done)) body.stop) (Stays (more_members t d) ts m) ts m
 another-member t d e ts m = go_if {b = begins_type e} (λ yes. pays (λ y deep g. go_call (λ ms us n p. go_done (λ f. p deep g)))) (λ no. go_stop)
@@ -74,12 +96,12 @@ pub more-declarators-kept : (t : Types) (d : ℕ) → Kept (more_declarators t d
 more-declarators-kept t d ts m = go_look (λ e is. more-declarators-by t d e ts m)
 
 enum-body-by : (t : Types) (d : ℕ) (a : Name) (e : Kind) (ts us : Tokens) (m : Meter) → Safe (enum_body_by t d a e) (Stays (an_enum t d) ts m) us m
-enum-body-by t d a k.OpenBrace ts us m = pays (λ y deep g. skips (λ _ vs. go_call (λ es ws n p. go_done (λ f. p g))))
-enum-body-by t d a _ ts us m = go_done (λ f. f)
+enum-body-by t d a k.OpenBrace ts us m = pays (λ y deep g. skips (λ _ vs. go_call (λ es ws n p. go_done (λ f. p g, refl))))
+enum-body-by t d a _ ts us m = go_done (λ f. f, refl)
 
 enum-by : (t : Types) (d : ℕ) (e : Kind) (ts : Tokens) (m : Meter) → Safe (enum_by t d e) (Stays (an_enum t d) ts m) ts m
 enum-by t d k.Name ts m = skips (λ a us. go_look (λ e is. enum-body-by t d a e ts us m))
-enum-by t d k.OpenBrace ts m = pays (λ y deep g. skips (λ _ vs. go_call (λ es ws n p. go_done (λ f. p g))))
+enum-by t d k.OpenBrace ts m = pays (λ y deep g. skips (λ _ vs. go_call (λ es ws n p. go_done (λ f. p g, refl))))
 enum-by t d _ ts m = go_stop
 
 pub enum-kept : (t : Types) (d : ℕ) → Kept (an_enum t d)
@@ -122,26 +144,27 @@ quals-by _ ts m = go_done (λ f. f)
 pub quals-kept : Kept all_quals
 quals-kept ts m = go_look (λ e is. quals-by e ts m)
 
-declared-by : (t : Types) (d : ℕ) (f : Bool) (ns : List Name) (ss : Stars) (a : Name) (e : Kind) (ts us : Tokens) (m n : Meter) → (Fits m → Fits n) →
-    Safe (declared_by t d f ss a e) (Stays (a_declarator t d f ns) ts m) us n
-declared-by t d f ns ss a k.OpenBracket ts us m n h = go_call (λ xs vs o p. go_done (λ deep g. p (h g)))
-declared-by t d f ns ss a k.OpenParen ts us m n h = go_if {b = f} (λ yes. skips (λ _ vs. go_call (λ ps ws o p. go_done (λ deep g. p deep (h g))))) (λ no. go_done (λ deep g. h g))
-declared-by t d f ns ss a _ ts us m n h = go_done (λ deep g. h g)
+declared-by : (t : Types) (d : ℕ) (f : Bool) (ss : Stars) (a : Name) (e : Kind) (us : Tokens) (n : Meter) (Q : DeclaratorTree → Tokens → Meter → Type 0) →
+    ((x : DeclaratorTree) (vs : Tokens) (o : Meter) → (d ≤ 1000 → Fits n → Fits o) → Q x vs o) → Safe (declared_by t d f ss a e) Q us n
+declared-by t d f ss a k.OpenBracket us n Q h = go_call (λ xs vs o p. go_done (h _ _ _ (λ deep. p)))
+declared-by t d f ss a k.OpenParen us n Q h = go_if {b = f} (λ yes. skips (λ _ vs. go_call (λ ps ws o p. go_done (h _ _ _ p)))) (λ no. go_done (h _ _ _ (λ deep g. g)))
+declared-by t d f ss a _ us n Q h = go_done (h _ _ _ (λ deep g. g))
 
-pointed-by : (t : Types) (d : ℕ) (f : Bool) (ns : List Name) (ss : Stars) (qs : Quals) (a : Name) (ts us : Tokens) (m n : Meter) → (Fits m → Fits n) →
-    Safe (pointed t d ss qs a) (Stays (a_declarator t d f ns) ts m) us n
-pointed-by t d f ns ss qs a ts us m n h =
-    go_call (λ xs vs o p. wants k.CloseParen (λ ws. wants k.OpenParen (λ ys. go_call (λ ps zs z q. go_done (λ deep g. q deep (p (h g)))))))
+pointed-by : (t : Types) (d : ℕ) (ss : Stars) (qs : Quals) (a : Name) (us : Tokens) (n : Meter) (Q : DeclaratorTree → Tokens → Meter → Type 0) →
+    ((x : DeclaratorTree) (vs : Tokens) (o : Meter) → (d ≤ 1000 → Fits n → Fits o) → Q x vs o) → Safe (pointed t d ss qs a) Q us n
+pointed-by t d ss qs a us n Q h =
+    go_call (λ xs vs o p. wants k.CloseParen (λ ws. wants k.OpenParen (λ ys. go_call (λ ps zs z q. go_done (h _ _ _ (λ deep g. q deep (p g)))))))
 
-declarator-by : (t : Types) (d : ℕ) (f : Bool) (ns : List Name) (ss : Stars) (e : Kind) (ts us : Tokens) (m n : Meter) → (Fits m → Fits n) →
-    Safe (declarator_by t d f ns ss e) (Stays (a_declarator t d f ns) ts m) us n
-declarator-by t d f ns ss k.Name ts us m n h = skips (λ a vs. go_look (λ e is. declared-by t d f ns ss a e ts vs m n h))
-declarator-by t d f ns ss k.OpenParen ts us m n h =
-    skips (λ _ vs. wants k.Star (λ ws. go_call (λ qs xs o p. go_look (λ e is. names [] e (λ a ys. pointed-by t d f ns ss qs a ts ys m o (λ g. p (h g)))))))
-declarator-by t d f ns ss _ ts us m n h = go_stop
+-- behind the stars of a declarator, of the first of an item or of another
+pub declarator-by : (t : Types) (d : ℕ) (f y : Bool) (ss : Stars) (e : Kind) (us : Tokens) (n : Meter) (Q : DeclaratorTree → Tokens → Meter → Type 0) →
+    ((x : DeclaratorTree) (vs : Tokens) (o : Meter) → (d ≤ 1000 → Fits n → Fits o) → Q x vs o) → Safe (declarator_by t d f y ss e) Q us n
+declarator-by t d f y ss k.Name us n Q h = skips (λ a vs. go_look (λ e is. declared-by (inside y a t) d f ss a e vs n Q h))
+declarator-by t d f y ss k.OpenParen us n Q h =
+    skips (λ _ vs. wants k.Star (λ ws. go_call (λ qs xs o p. a_name_taken (λ a ys. pointed-by (inside y a t) d ss qs a ys o Q (λ x zs z q. h x zs z (λ deep g. q deep (p g)))))))
+declarator-by t d f y ss _ us n Q h = go_stop
 
-pub declarator-kept : (t : Types) (d : ℕ) (f : Bool) (ns : List Name) → Kept (a_declarator t d f ns)
-declarator-kept t d f ns ts m = go_call (λ ss us n p. go_look (λ e is. declarator-by t d f ns ss e ts us m n p))
+pub declarator-kept : (t : Types) (d : ℕ) (f y : Bool) → Kept (a_declarator t d f y)
+declarator-kept t d f y ts m = go_call (λ ss us n p. go_look (λ e is. declarator-by t d f y ss e us n _ (λ x vs o q deep g. q deep (p g))))
 
 size-by : (t : Types) (d : ℕ) (e : Kind) (ts us : Tokens) (m : Meter) → Safe (size_by t d e) (Stays (all_sizes t d) ts m) us m
 size-by t d k.CloseBracket ts us m = skips (λ _ vs. go_call (λ xs ws n p. go_done p))
@@ -205,7 +228,7 @@ parameter-by t d ws ss k.OpenParen ts us m n h =
 parameter-by t d ws ss _ ts us m n h = go_done (λ deep f. h f)
 
 pub parameter-kept : (t : Types) (d : ℕ) → Kept (a_parameter t d)
-parameter-kept t d ts m = go_call (λ ws us n p. go_call (λ ss vs o q. go_look (λ e is. parameter-by t d ws ss e ts vs m o (λ f. q (p f)))))
+parameter-kept t d ts m = go_call (λ ws us n p. go_call (λ ss vs o q. go_look (λ e is. parameter-by t d ws ss e ts vs m o (λ f. q (p.0 f)))))
 
 bare-by : (t : Types) (d : ℕ) (ss : Stars) (e : Kind) (ts us : Tokens) (m n : Meter) → (Fits m → Fits n) → Safe (bare_by t d ss e) (Stays (a_bare t d) ts m) us n
 bare-by t d ss k.OpenParen ts us m n h = skips (λ _ vs. wants k.Star (λ ws. go_call (λ qs xs o p.

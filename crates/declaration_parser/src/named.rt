@@ -15,10 +15,10 @@ ghost use Rattle.declaration_parser.specs.DeclarationParts.{another_name};
 use crate::forms::has_initializer;
 use c_grammar::{Cursor, Kind, same_kind};
 use c_tree::{Declarator, Named};
+use expression_parser::grammar::Types;
 use expression_parser::refusal::Refusal;
 use expression_parser::steps::{expect, refused, spend};
 use initializer_parser::initializer;
-use program_scope::Types;
 use sqlite_items::Items;
 use std::alloc::Global;
 use type_parser::nest::declarator;
@@ -26,7 +26,7 @@ use type_parser::nest::declarator;
 /// A declared name at the sign before its initialiser.
 fn initialized(
     alloc: Global,
-    types: &Types,
+    types: &Types<'_>,
     cursor: &mut Cursor<'_>,
     d: u32,
     declarator: Declarator,
@@ -43,7 +43,7 @@ fn initialized(
 /// A declared name behind its declarator, whose name has depth `d`: its initialiser, which it may have or not, or none.
 pub fn named_init(
     alloc: Global,
-    types: &Types,
+    types: &Types<'_>,
     cursor: &mut Cursor<'_>,
     d: u32,
     may_begin: bool,
@@ -71,15 +71,14 @@ pub fn named_init(
 #[tactic(auto, using(expression_parser::proofs::Opens::named_performs))]
 pub fn declared_name(
     alloc: Global,
-    types: &Types,
+    types: &Types<'_>,
     cursor: &mut Cursor<'_>,
     d: u32,
 ) -> Result<Named, Refusal>
     requires { d ≤ 1000 }
     ensures { Gives view_named (read (a_named types.now d) cursor.old) result cursor.new }
 {
-    let none = Types::new(alloc);
-    let declarator = declarator(alloc, types, cursor, d + 1, true, &none)?;
+    let declarator = declarator(alloc, types, cursor, d + 1, true)?;
     let may_begin = has_initializer(&declarator);
     named_init(alloc, types, cursor, d + 1, may_begin, declarator)
 }
@@ -87,7 +86,7 @@ pub fn declared_name(
 /// One more declared name, behind a comma.
 fn another_name(
     alloc: Global,
-    types: &Types,
+    types: &Types<'_>,
     cursor: &mut Cursor<'_>,
     d: u32,
 ) -> Result<Named, Refusal>
@@ -103,7 +102,7 @@ fn another_name(
 /// The declared names behind the first, with the semicolon.
 pub fn more_names(
     alloc: Global,
-    types: &Types,
+    types: &Types<'_>,
     cursor: &mut Cursor<'_>,
     d: u32,
     first: Named,

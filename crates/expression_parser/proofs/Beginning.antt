@@ -2,14 +2,13 @@
 use Rattle.std.proofs.Common.{◌≡◌, ℕ, ◌+◌, ◌∷◌, Option, Some, None, refl, ◌∙◌}
 use Rattle.c_tree.specs.Marks.{Tokens}
 use Rattle.c_tree.specs.Tree.{name, integer, character, text, before, unary}
-use Rattle.c_grammar.specs.Body.{done, take, spend, Outcome, got, refused, exceeded, and_then, and_paid}
-use Rattle.c_grammar.specs.Body as body
+use Rattle.c_grammar.specs.Body.{Outcome, got, refused, exceeded, and_then, and_paid}
 use Rattle.c_grammar.specs.Gauge.{Meter, within, added}
 use Rattle.c_grammar.specs.Kind.{kind, head_text}
 use Rattle.c_grammar.specs.Input.{Input, next, metered}
 use Rattle.c_grammar.specs.Reading.{read}
-use Rattle.c_grammar.specs.Rules.{Rule, Result, Reads, Types, a_prefix, an_expression, more_texts, prefix_by, first_of_operand, First, no_operand, a_word, a_number, a_character, a_text, an_open, a_sizeof, a_step, a_unary}
-use Rattle.expression_parser.specs.Beginning.{begun, leaf, words, operand}
+use Rattle.c_grammar.specs.Rules.{Types, a_prefix, an_expression, more_texts, prefix_by, first_of_operand, First, no_operand, a_word, a_number, a_character, a_text, an_open, a_sizeof, a_step, a_unary}
+use Rattle.expression_parser.specs.Beginning.{begun}
 use Rattle.expression_parser.specs.Lists.{mapped}
 use Rattle.expression_parser.specs.Performing.{perform}
 use Rattle.expression_parser.proofs.Opens.{prefix_performs}
@@ -38,5 +37,5 @@ begins t d least owed (a_step o) i =
 begins t d least owed (a_unary o) i =
     paid_mapped (unary o) (within (added (owed + 1) (d + 2) i.meter)) i.rest _ _ (λ m. tail_twice (unary o) (λ x. x) (read (an_expression t (d + 1) 14 0) (next (metered m i))))
 
-pub prefix_begins : (t : Types) (d least owed : ℕ) (i : Input) → read (a_prefix t d least owed) i ≡ begun t d least owed (first_of_operand (kind t i.rest)) i
-prefix_begins t d least owed i = prefix_performs t d least owed i ∙ begins t d least owed (first_of_operand (kind t i.rest)) i
+pub prefix_begins : (t : Types) (d least owed : ℕ) (i : Input) → read (a_prefix t d least owed) i ≡ begun t d least owed (first_of_operand (kind t.names i.rest)) i
+prefix_begins t d least owed i = prefix_performs t d least owed i ∙ begins t d least owed (first_of_operand (kind t.names i.rest)) i

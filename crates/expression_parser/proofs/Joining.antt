@@ -1,5 +1,5 @@
 -- What two bodies read that begin in the same way, and how many tokens they leave.
-use Rattle.std.proofs.Common.{◌≡◌, ◌≢◌, ◌<◌, ◌≤◌, ℕ, zero, suc, ◌+◌, Bool, true, false, nat_lt, cond, List, [], ◌∷◌, length, Option, Some, None, Result as Res, Ok, Err, IsErr, IsErrAnd, refl, sym, ap, ◌∙◌, subst, arith}
+use Rattle.std.proofs.Common.{◌≡◌, ◌≤◌, ℕ, Bool, true, false, nat_lt, cond, List, [], ◌∷◌, length, Option, Some, None, Result as Res, Ok, Err, IsErr, IsErrAnd, refl, sym, subst, arith}
 use Rattle.c_tree.specs.Tree.{Name}
 use Rattle.c_tree.specs.Marks.{Tokens}
 use Rattle.c_grammar.specs.declared.kind.Kind.{Kind}
@@ -10,7 +10,7 @@ use Rattle.c_grammar.specs.Body as body
 use Rattle.c_grammar.specs.Gauge.{Meter, within, added, raised, entered, left}
 use Rattle.c_grammar.specs.Input.{Input, next, metered}
 use Rattle.c_grammar.specs.Reading.{read, failure_of}
-use Rattle.c_grammar.specs.Rules.{Rule, Result, Reads, Types, expect, a_name, named_by}
+use Rattle.c_grammar.specs.Rules.{Rule, Result, Reads, expect, named_by}
 use Rattle.expression_parser.specs.declared.refusal.Refusal.{Refusal}
 use Rattle.expression_parser.specs.declared.refusal.Refusal.TheVariants.{Syntax, Large, NoMemory}
 use Rattle.expression_parser.specs.Gives.{Says, Fails, Gives}
@@ -69,8 +69,8 @@ module _ {A B C : Type 0} {g : B → C} {go : C → Reader Meter A} {j : Input} 
   pub join_expect : (e : Kind) {f : Reads A} {h : Reads B} → Joins g go f h (next j) → Joins g go (expect e f) (expect e h) j
   join_expect e {f = f} {h = h} same = record { is = expect_joined g go f h j (same_kind (kind [] j.rest) e) same.is }
 
-  pub join_name : (t : Types) {f : Name → Reads A} {h : Name → Reads B} → ((n : Name) → Joins g go (f n) (h n) (next j)) → Joins g go (a_name t f) (a_name t h) j
-  join_name t {f = f} {h = h} same = record { is = named_joined g go (kind t j.rest) f h j (λ n. (same n).is) }
+  pub join_name : (types : List Name) {f : Name → Reads A} {h : Name → Reads B} → ((n : Name) → Joins g go (f n) (h n) (next j)) → Joins g go (look types (named_by [] f)) (look types (named_by [] h)) j
+  join_name types {f = f} {h = h} same = record { is = named_joined g go (kind types j.rest) f h j (λ n. (same n).is) }
 
 pub same_mapped : {A : Type 0} (o : Outcome Meter A) → mapped (λ x. x) o ≡ o
 same_mapped (got v us m) = refl

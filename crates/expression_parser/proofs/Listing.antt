@@ -1,6 +1,5 @@
 -- Texts and arguments, one by one.
-use Rattle.std.proofs.Common.{◌≡◌, ◌≢◌, ◌<◌, ◌≤◌, ℕ, ◌+◌, Bool, true, false, List, [], ◌∷◌, map, length, refl, sym, ap, ◌∙◌, subst, arith}
-use Rattle.c_tree.specs.declared.tree.Expr.{Expr}
+use Rattle.std.proofs.Common.{◌≡◌, ◌≢◌, ◌<◌, ◌≤◌, ℕ, true, false, List, [], ◌∷◌, length, refl, sym, ap, ◌∙◌, subst, arith}
 use Rattle.c_tree.specs.Tree.{Name, Expression, Expressions, no_expressions, expressions}
 use Rattle.c_tree.specs.Marks.{Tokens}
 use Rattle.c_tree.specs.View.{expressions_of}
@@ -102,7 +101,7 @@ arguments_some t d k.CloseParen other = absurd (other refl)
 arguments_some t d _ other = refl
 
 -- the first argument, and the others
-pub arguments_first : (t : Types) (d : ℕ) (i j : Input) (y : Expression) (x : Kind) → x ≡ kind t i.rest → x ≢ k.CloseParen → read (an_expression t d 2 1) i ≡ got y j.rest j.meter →
+pub arguments_first : (t : Types) (d : ℕ) (i j : Input) (y : Expression) (x : Kind) → x ≡ kind t.names i.rest → x ≢ k.CloseParen → read (an_expression t d 2 1) i ≡ got y j.rest j.meter →
     read (all_arguments t d) i ≡ mapped (expressions y) (read (more_arguments t d) j)
 arguments_first t d i j y x is other e =
     arguments_performs t d i

@@ -1,10 +1,10 @@
 -- Lists that a loop reads.
-use Rattle.std.proofs.Common.{Ok, List, [], ◌∷◌, ◌++◌, map, ◌≡◌, ◌<◌, ◌≤◌, ℕ, nat_lt, Bool, true, false, ◌||◌, cond, length, refl, sym, ap, ◌∙◌, subst}
-use Rattle.c_grammar.specs.Body.{Body, done, call, Outcome, got, refused, exceeded, exec, and_then}
-use Rattle.c_grammar.specs.Gauge.{Meter, limited}
-use Rattle.c_grammar.specs.Input.{Input, next}
+use Rattle.std.proofs.Common.{Ok, List, [], ◌∷◌, ◌++◌, map, ◌≡◌, ℕ, nat_lt, Bool, true, false, ◌||◌, cond, refl, sym, ap, ◌∙◌, subst}
+use Rattle.c_grammar.specs.Body.{done, call, Outcome, got, refused, exceeded, and_then}
+use Rattle.c_grammar.specs.Gauge.{Meter}
+use Rattle.c_grammar.specs.Input.{Input}
 use Rattle.c_grammar.specs.Reading.{read, failure_of}
-use Rattle.c_grammar.specs.Rules.{Rule, Result, Reads, rule, rank}
+use Rattle.c_grammar.specs.Rules.{Rule, Result, rank}
 use Rattle.c_grammar.proofs.Running.{Runs}
 use Rattle.expression_parser.specs.declared.refusal.Refusal.{Refusal}
 use Rattle.expression_parser.specs.Lists.{mapped, before}

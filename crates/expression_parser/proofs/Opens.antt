@@ -3,7 +3,7 @@ use Rattle.std.proofs.Common.{◌≡◌, ℕ, Bool, List}
 use Rattle.c_tree.specs.declared.tree.Storage.{Storage}
 use Rattle.c_tree.specs.TypeWords.{TypeWord}
 use Rattle.c_tree.specs.Shape.{Scope, Place}
-use Rattle.c_tree.specs.Tree.{Name, Expression}
+use Rattle.c_tree.specs.Tree.{Expression}
 use Rattle.c_grammar.specs.declared.kind.Kind.{Kind}
 use Rattle.c_grammar.specs.Kind.{IsReal}
 use Rattle.c_grammar.specs.Input.{Input}
@@ -39,8 +39,8 @@ more_arguments_performs t d i = read_performs (more_arguments t d) tt i
 pub type_performs : (t : Types) (d : ℕ) (i : Input) → read (a_type t d) i ≡ perform (rule (a_type t d)) i
 type_performs t d i = read_performs (a_type t d) tt i
 
-pub specifiers_performs : (t : Types) (d : ℕ) (ws : List TypeWord) (i : Input) → read (all_specifiers t d ws) i ≡ perform (rule (all_specifiers t d ws)) i
-specifiers_performs t d ws i = read_performs (all_specifiers t d ws) tt i
+pub specifiers_performs : (t : Types) (d : ℕ) (b : Bool) (ws : List TypeWord) (i : Input) → read (all_specifiers t d b ws) i ≡ perform (rule (all_specifiers t d b ws)) i
+specifiers_performs t d b ws i = read_performs (all_specifiers t d b ws) tt i
 
 pub struct_performs : (t : Types) (d : ℕ) (i : Input) → read (a_struct t d) i ≡ perform (rule (a_struct t d)) i
 struct_performs t d i = read_performs (a_struct t d) tt i
@@ -72,8 +72,8 @@ stars_performs i = read_performs all_stars tt i
 pub quals_performs : (i : Input) → read all_quals i ≡ perform (rule all_quals) i
 quals_performs i = read_performs all_quals tt i
 
-pub declarator_performs : (t : Types) (d : ℕ) (f : Bool) (ns : List Name) (i : Input) → read (a_declarator t d f ns) i ≡ perform (rule (a_declarator t d f ns)) i
-declarator_performs t d f ns i = read_performs (a_declarator t d f ns) tt i
+pub declarator_performs : (t : Types) (d : ℕ) (f y : Bool) (i : Input) → read (a_declarator t d f y) i ≡ perform (rule (a_declarator t d f y)) i
+declarator_performs t d f y i = read_performs (a_declarator t d f y) tt i
 
 pub sizes_performs : (t : Types) (d : ℕ) (i : Input) → read (all_sizes t d) i ≡ perform (rule (all_sizes t d)) i
 sizes_performs t d i = read_performs (all_sizes t d) tt i

@@ -1,5 +1,5 @@
 -- Reading leaves no more tokens than there were.
-use Rattle.std.proofs.Common.{◌≡◌, ℕ, zero, suc, ◌<◌, ◌≤◌, nat_lt, Bool, true, false, ◌||◌, cond, List, [], ◌∷◌, length, Option, Some, None, refl, subst, arith}
+use Rattle.std.proofs.Common.{◌≡◌, ℕ, zero, suc, ◌<◌, ◌≤◌, nat_lt, Bool, true, false, ◌||◌, cond, [], ◌∷◌, length, Option, Some, None, subst, arith}
 use Rattle.c_tree.specs.Marks.{Tokens}
 use Rattle.c_grammar.specs.Kind.{kind}
 use Rattle.c_grammar.specs.Body.{Body, done, stop, look, take, spend, rise, call, strict, scope, Outcome, got, refused, exceeded, Reader, Gauge, and_then, and_paid, exec, run, reads}

@@ -1,5 +1,5 @@
 -- What one operator makes of the expression before it.
-use Rattle.std.specs.Prelude.{ℕ, suc, ◌+◌, []}
+use Rattle.std.specs.Prelude.{ℕ, suc, ◌+◌}
 use Rattle.c_tree.specs.ExpressionShape.{op_level}
 use Rattle.c_tree.specs.Tree.{Name, Expression, Expressions, comma, assign, choose, binary, index, call, dot, arrow, after}
 use Rattle.c_grammar.specs.declared.kind.Kind.TheVariants as k

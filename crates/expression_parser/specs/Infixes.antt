@@ -1,6 +1,5 @@
 -- What an expression begins and goes on with.
-use Rattle.std.specs.Prelude.{ℕ, Bool, Option, Some, None, if◌then◌else◌}
-use Rattle.c_grammar.specs.declared.kind.Kind.{Kind}
+use Rattle.std.specs.Prelude.{ℕ, Option, Some, None, if◌then◌else◌}
 use Rattle.c_grammar.specs.Rules as r
 use Rattle.c_grammar.specs.Rules.{infix_of, goes_on}
 use Rattle.expression_parser.specs.declared.infix.First.{First}

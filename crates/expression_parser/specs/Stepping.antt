@@ -1,5 +1,5 @@
 -- What the steps of a rule ensure of the input before and behind them.
-use Rattle.std.specs.Prelude.{◌≡◌, ◌≢◌, ◌≤◌, ℕ, List, [], length, Option, Some, None, Result, Ok, Err, true, false}
+use Rattle.std.specs.Prelude.{◌≡◌, ◌≤◌, ℕ, [], length, Some, None, Result, Ok, Err, true, false}
 use Rattle.c_tree.specs.Tree.{Name}
 use Rattle.c_grammar.specs.declared.kind.Kind.{Kind}
 use Rattle.c_grammar.specs.Kind.{kind, same_kind, head_text}

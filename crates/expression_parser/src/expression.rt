@@ -14,14 +14,13 @@ ghost use Rattle.expression_parser.specs.Lists.{mapped};
 ghost use Rattle.expression_parser.specs.Nests.{Nests};
 ghost use Rattle.expression_parser.specs.Performing.{perform};
 
-use crate::grammar::{Found, Grammar, Nested};
+use crate::grammar::{Found, Grammar, Nested, Types};
 use crate::infix::{First, Infix, begins_type, first_of_operand, infix_behind, level, op_level};
 use crate::refusal::Refusal;
 use crate::steps::{expect, kind, name, refused, rise, spend, word};
 use base_core::Lexeme;
 use c_grammar::{Cursor, Kind, same_kind};
 use c_tree::{Expr, StepOp};
-use program_scope::Types;
 use sqlite_items::{Boxed, Items};
 use std::alloc::Global;
 
@@ -62,10 +61,9 @@ fn words(
     Ok(found)
 }
 
-impl<F: Fn(Global, &Types, &mut Cursor<'_>, usize, u32, Nested) -> Result<Found, Refusal>> Grammar<
-    '_,
-    F,
-> {
+impl<
+    F: Fn(Global, &Types<'_>, &mut Cursor<'_>, usize, u32, Nested) -> Result<Found, Refusal>,
+> Grammar<'_, F> {
     /// An operator, and its right operand.
     fn right_operand(
         &self,
@@ -271,7 +269,7 @@ impl<F: Fn(Global, &Types, &mut Cursor<'_>, usize, u32, Nested) -> Result<Found,
     fn bracketed(&self, cursor: &mut Cursor<'_>, d: u32, least: u8) -> Result<Expr, Refusal>
         requires nests { Nests self.now.budget (F.pre self.now.read) (F.post self.now.read) }
         requires small { d ≤ 1000 }
-        ensures { Gives view_expression (perform (look self.now.types.now (opened_by self.now.types.now d least)) cursor.old) result cursor.new }
+        ensures { Gives view_expression (perform (look self.now.types.now.names (opened_by self.now.types.now d least)) cursor.old) result cursor.new }
     {
         if begins_type(kind(self.types, cursor)) && least <= 14 {
             let ty = self.type_name(cursor, d + 1)?;
@@ -293,7 +291,7 @@ impl<F: Fn(Global, &Types, &mut Cursor<'_>, usize, u32, Nested) -> Result<Found,
     fn sized(&self, cursor: &mut Cursor<'_>, d: u32) -> Result<Expr, Refusal>
         requires nests { Nests self.now.budget (F.pre self.now.read) (F.post self.now.read) }
         requires small { d ≤ 999 }
-        ensures { Gives view_expression (perform (look self.now.types.now (sized_by self.now.types.now d)) cursor.old) result cursor.new }
+        ensures { Gives view_expression (perform (look self.now.types.now.names (sized_by self.now.types.now d)) cursor.old) result cursor.new }
     {
         if begins_type(kind(self.types, cursor)) {
             let ty = self.type_name(cursor, d + 1)?;
@@ -312,7 +310,7 @@ impl<F: Fn(Global, &Types, &mut Cursor<'_>, usize, u32, Nested) -> Result<Found,
     fn size_of(&self, cursor: &mut Cursor<'_>, d: u32) -> Result<Expr, Refusal>
         requires nests { Nests self.now.budget (F.pre self.now.read) (F.post self.now.read) }
         requires small { d ≤ 999 }
-        ensures { Gives view_expression (perform (look self.now.types.now (sizeof_by self.now.types.now d)) cursor.old) result cursor.new }
+        ensures { Gives view_expression (perform (look self.now.types.now.names (sizeof_by self.now.types.now d)) cursor.old) result cursor.new }
     {
         match kind(self.types, cursor) {
             Kind::OpenParen => {

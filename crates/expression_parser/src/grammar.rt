@@ -10,9 +10,50 @@ ghost use Rattle.expression_parser.specs.Nests.{Nests};
 use crate::refusal::Refusal;
 use c_grammar::Cursor;
 use c_tree::{Expr, Member, Params, TypeName};
-use program_scope::Types;
+use program_scope::Names;
 use sqlite_items::Items;
 use std::alloc::Global;
+use std::marker::Model;
+
+/// The names that matter where a token is read.
+#[derive(Drop)]
+pub struct Types<'a> {
+    /// Those that are types.
+    names: &'a Names,
+    /// Those that may be used there, but not be declared.
+    taken: &'a Names,
+}
+
+impl<'a> Model for Types<'a> {
+    ghost use Rattle.c_grammar.specs.Rules as rules;
+
+    ghost Value = { rules.Types };
+
+    ghost view = { λ t. record { names = t.names.now; taken = t.taken.now } };
+}
+
+impl<'a> Types<'a> {
+    /// These names are types, and these are taken.
+    pub fn new(names: &'a Names, taken: &'a Names) -> Self
+        ensures { result ≡ record { names = names.now; taken = taken.now } }
+    {
+        Types { names, taken }
+    }
+
+    /// The names that are types.
+    pub fn names(&self) -> &'a Names
+        ensures { result.now ≡ self.now.names }
+    {
+        self.names
+    }
+
+    /// The names that are taken.
+    pub fn taken(&self) -> &'a Names
+        ensures { result.now ≡ self.now.taken }
+    {
+        self.taken
+    }
+}
 
 /// What may hold others of its kind.
 #[derive(Clone, Copy)]
@@ -35,17 +76,16 @@ pub enum Found {
 #[derive(Drop)]
 pub struct Grammar<'a, F> {
     pub alloc: Global,
-    /// The names that are types.
-    pub types: &'a Types,
+    /// The names that are types, and those that are taken.
+    pub types: &'a Types<'a>,
     /// How often what nests may still nest.
     pub budget: usize,
     pub read: F,
 }
 
-impl<F: Fn(Global, &Types, &mut Cursor<'_>, usize, u32, Nested) -> Result<Found, Refusal>> Grammar<
-    '_,
-    F,
-> {
+impl<
+    F: Fn(Global, &Types<'_>, &mut Cursor<'_>, usize, u32, Nested) -> Result<Found, Refusal>,
+> Grammar<'_, F> {
     /// An expression of at least this level.
     pub fn expression(
         &self,

@@ -3,16 +3,16 @@
 ghost use Rattle.std.specs.Prelude.{◌≡◌, length};
 ghost use Rattle.c_grammar.specs.Kind as spec;
 ghost use Rattle.c_grammar.specs.Body.{done};
-ghost use Rattle.c_grammar.specs.Rules.{a_name};
+ghost use Rattle.c_grammar.specs.Rules.{barred, a_name, a_new_name};
 ghost use Rattle.expression_parser.specs.Gives.{Gives};
 ghost use Rattle.expression_parser.specs.Performing.{perform};
 ghost use Rattle.expression_parser.specs.declared.refusal.Refusal.TheVariants as refusal;
 ghost use Rattle.expression_parser.specs.Stepping.{Spends, Raises, Expects, Takes};
 
+use crate::grammar::Types;
 use crate::refusal::Refusal;
 use base_core::Lexeme;
 use c_grammar::{Cursor, Kind, same_kind};
-use program_scope::Types;
 use std::alloc::Global;
 
 /// No rule goes on with the next token.
@@ -29,13 +29,28 @@ pub fn exceeded(cursor: &Cursor<'_>) -> Refusal
     Refusal::Large(cursor.left())
 }
 
-/// The kind of the next token, where these names are types.
+/// The kind of the next token, where it is used.
 #[tactic(auto, using(c_grammar::proofs::KindLemmas::kind_sorted))]
-pub fn kind(types: &Types, cursor: &Cursor<'_>) -> Kind
-    ensures { result ≡ spec.kind types.now cursor.now.rest }
+pub fn kind(types: &Types<'_>, cursor: &Cursor<'_>) -> Kind
+    ensures { result ≡ spec.kind types.now.names cursor.now.rest }
 {
     let kind = cursor.kind();
-    if same_kind(kind, Kind::Name) && types.contains(cursor.lexeme()) {
+    if same_kind(kind, Kind::Name) && types.names().contains(cursor.lexeme()) {
+        Kind::TypeName
+    } else {
+        kind
+    }
+}
+
+/// The kind of the next token, where a name would be declared: one that is taken is none that may be.
+#[tactic(auto, using(c_grammar::proofs::KindLemmas::kind_beside))]
+pub fn new_kind(types: &Types<'_>, cursor: &Cursor<'_>) -> Kind
+    ensures { result ≡ spec.kind (barred types.now) cursor.now.rest }
+{
+    let kind = cursor.kind();
+    if same_kind(kind, Kind::Name)
+        && (types.taken().contains(cursor.lexeme()) || types.names().contains(cursor.lexeme()))
+    {
         Kind::TypeName
     } else {
         kind
@@ -85,8 +100,22 @@ pub fn word(alloc: Global, cursor: &mut Cursor<'_>) -> Result<Lexeme, Refusal>
     Ok(text)
 }
 
+/// A name that may be declared.
+pub fn new_name(
+    alloc: Global,
+    types: &Types<'_>,
+    cursor: &mut Cursor<'_>,
+) -> Result<Lexeme, Refusal>
+    ensures { Gives (λ n. n) (perform (a_new_name types.now done) cursor.old) result cursor.new }
+{
+    match new_kind(types, cursor) {
+        Kind::Name => word(alloc, cursor),
+        _ => Err(refused(cursor)),
+    }
+}
+
 /// A name that is no type.
-pub fn name(alloc: Global, types: &Types, cursor: &mut Cursor<'_>) -> Result<Lexeme, Refusal>
+pub fn name(alloc: Global, types: &Types<'_>, cursor: &mut Cursor<'_>) -> Result<Lexeme, Refusal>
     ensures { Gives (λ n. n) (perform (a_name types.now done) cursor.old) result cursor.new }
 {
     match kind(types, cursor) {

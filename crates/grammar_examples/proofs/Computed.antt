@@ -4,8 +4,8 @@ use Rattle.c_tree.specs.TypeWords.{built_in_types}
 use Rattle.c_grammar.specs.Kind.{kind, same_kind, keyword_kind, mark_kind}
 use Rattle.c_grammar.specs.Body.{run, reads}
 use Rattle.c_grammar.specs.Reading.{read}
-use Rattle.grammar_examples.specs.Examples.{ArrayOfPointers, PointerToFunction, Differences, Assignments, Choices, InnerElse, SizeOfAType, SizeOfAValue, CastOfAMinus, MinusBehindBrackets, StructWithValue, Enumeration, CastToANewType, ForWithDeclaration, Cases, Jump, Postfix}
-use Rattle.grammar_examples.specs.Refusals.{TypeDeclaredAgain, DifferenceAssigned, CaseWithoutASwitch, BreakWithoutALoop, BracketsRoundAName, LongChar, FunctionWithAValue}
+use Rattle.grammar_examples.specs.Examples.{ArrayOfPointers, PointerToFunction, Differences, Assignments, Choices, InnerElse, SizeOfAType, SizeOfAValue, CastOfAMinus, MinusBehindBrackets, StructWithValue, Enumeration, CastToANewType, ForWithDeclaration, Cases, Jump, Postfix, SizeOfItsOwnName}
+use Rattle.grammar_examples.specs.Refusals.{TypeDeclaredAgain, DifferenceAssigned, CaseWithoutASwitch, BreakWithoutALoop, BracketsRoundAName, LongChar, FunctionWithAValue, ParameterNamedAsItsType, MemberNamedAsItsType, EnumeratorNamedAsItsType}
 
 -- typedef int T; void f(void) { int | T; }
 pub type_declared_again : TypeDeclaredAgain
@@ -41,6 +41,21 @@ long_char = refl
 pub function_with_a_value : FunctionWithAValue
 unfolding read reads run kind same_kind keyword_kind mark_kind built_in_types
 function_with_a_value = refl
+
+-- typedef int T(int | T);
+pub parameter_named_as_its_type : ParameterNamedAsItsType
+unfolding read reads run kind same_kind keyword_kind mark_kind built_in_types
+parameter_named_as_its_type = refl
+
+-- typedef int T[sizeof(struct { int | T; })];
+pub member_named_as_its_type : MemberNamedAsItsType
+unfolding read reads run kind same_kind keyword_kind mark_kind built_in_types
+member_named_as_its_type = refl
+
+-- typedef int T[sizeof(enum { | T })];
+pub enumerator_named_as_its_type : EnumeratorNamedAsItsType
+unfolding read reads run kind same_kind keyword_kind mark_kind built_in_types
+enumerator_named_as_its_type = refl
 
 -- int (*f[2])(int);
 pub array_of_pointers : ArrayOfPointers
@@ -126,3 +141,8 @@ jump = record { spelled = refl; read_back = refl }
 pub postfix : Postfix
 unfolding read reads run kind same_kind keyword_kind mark_kind built_in_types
 postfix = record { spelled = refl; read_back = refl }
+
+-- typedef int T[sizeof T];
+pub size_of_its_own_name : SizeOfItsOwnName
+unfolding read reads run kind same_kind keyword_kind mark_kind built_in_types
+size_of_its_own_name = record { spelled = refl; read_back = refl }

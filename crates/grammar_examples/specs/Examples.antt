@@ -135,3 +135,10 @@ abbrev pub Postfix : Type 0
 Postfix = ReadsBack
     (keyword (codes "void") ∷ name_token (codes "f") ∷ mark (codes "(") ∷ keyword (codes "void") ∷ mark (codes ")") ∷ mark (codes "{") ∷ name_token (codes "p") ∷ mark (codes "->") ∷ name_token (codes "x") ∷ mark (codes "[") ∷ integer_token (codes "1") ∷ mark (codes "]") ∷ mark (codes "(") ∷ integer_token (codes "2") ∷ mark (codes ")") ∷ mark (codes "++") ∷ mark (codes ";") ∷ mark (codes "}") ∷ [])
     programs.postfix
+
+-- typedef int T[sizeof T];
+-- in its own declarator the name of a type is no type yet
+abbrev pub SizeOfItsOwnName : Type 0
+SizeOfItsOwnName = ReadsBack
+    (keyword (codes "typedef") ∷ keyword (codes "int") ∷ name_token (codes "T") ∷ mark (codes "[") ∷ keyword (codes "sizeof") ∷ name_token (codes "T") ∷ mark (codes "]") ∷ mark (codes ";") ∷ [])
+    programs.size_of_its_own_name

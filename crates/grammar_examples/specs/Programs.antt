@@ -6,7 +6,7 @@ use Rattle.c_tree.specs.declared.tree.UnaryOp.TheVariants as unary_op
 use Rattle.c_tree.specs.declared.tree.StepOp.TheVariants as step_op
 use Rattle.c_tree.specs.declared.tree.Storage.{Storage}
 use Rattle.c_tree.specs.declared.tree.Storage.TheVariants as storage
-use Rattle.c_tree.specs.Tree.{Name, Expression, assign, choose, binary, cast, unary, size_of, size_of_type, index, call, arrow, after, name, integer, paren, no_expressions, expressions, no_sizes, size, typed, Specifiers, no_specifiers, specifiers, struct_of, enum_of, no_members, member, no_declarators, declarators, no_enumerators, enumerator, enumerator_with, DeclaratorTree, plain, pointer, no_parameters, parameters, bare_form, bare_stars, Initializer, single, listed, no_initializers, initializers, NamedTree, DeclarationTree, start_declaration, StatementTree, block, expression_statement, if_statement, if_else_statement, for_statement, switch_statement, case_label, default_label, named_label, break_statement, goto_statement, Statements, no_statements, statements, ItemTree, function_item, declaration_item, void_word, int_word, type_name}
+use Rattle.c_tree.specs.Tree.{Name, Expression, assign, choose, binary, cast, unary, size_of, size_of_type, index, call, arrow, after, name, integer, paren, no_expressions, expressions, no_sizes, size, typed, Specifiers, no_specifiers, specifiers, struct_of, enum_of, no_members, member, no_declarators, declarators, no_enumerators, enumerator, enumerator_with, DeclaratorTree, plain, array, pointer, no_parameters, parameters, bare_form, bare_stars, Initializer, single, listed, no_initializers, initializers, NamedTree, DeclarationTree, start_declaration, StatementTree, block, expression_statement, if_statement, if_else_statement, for_statement, switch_statement, case_label, default_label, named_label, break_statement, goto_statement, Statements, no_statements, statements, ItemTree, function_item, declaration_item, void_word, int_word, type_name}
 
 abbrev a : Expression
 a = name (codes "a")
@@ -130,3 +130,7 @@ jump = runs (statements (named_label (codes "l")) (statements (goto_statement (c
 -- void f(void) { p->x[1](2)++; }
 abbrev pub postfix : List ItemTree
 postfix = runs (statements (does (after step_op.Up (call (index (arrow (name (codes "p")) (codes "x")) one) (expressions two no_expressions)))) no_statements) ∷ []
+
+-- typedef int T[sizeof T];
+abbrev pub size_of_its_own_name : List ItemTree
+size_of_its_own_name = declaration_item (declares storage.Typedef int (plain_name (array [] (codes "T") (size (size_of (name (codes "T"))) no_sizes)) ∷ [])) ∷ []

@@ -59,3 +59,24 @@ abbrev pub FunctionWithAValue : Type 0
 FunctionWithAValue = RefusedBehind
     (keyword (codes "int") ∷ name_token (codes "f") ∷ mark (codes "(") ∷ keyword (codes "void") ∷ mark (codes ")") ∷ [])
     (mark (codes "=") ∷ integer_token (codes "1") ∷ mark (codes ";") ∷ [])
+
+-- typedef int T(int | T);
+-- the name of a type is not declared again in its own declarator: not by a parameter
+abbrev pub ParameterNamedAsItsType : Type 0
+ParameterNamedAsItsType = RefusedBehind
+    (keyword (codes "typedef") ∷ keyword (codes "int") ∷ name_token (codes "T") ∷ mark (codes "(") ∷ keyword (codes "int") ∷ [])
+    (name_token (codes "T") ∷ mark (codes ")") ∷ mark (codes ";") ∷ [])
+
+-- typedef int T[sizeof(struct { int | T; })];
+-- nor by a member
+abbrev pub MemberNamedAsItsType : Type 0
+MemberNamedAsItsType = RefusedBehind
+    (keyword (codes "typedef") ∷ keyword (codes "int") ∷ name_token (codes "T") ∷ mark (codes "[") ∷ keyword (codes "sizeof") ∷ mark (codes "(") ∷ keyword (codes "struct") ∷ mark (codes "{") ∷ keyword (codes "int") ∷ [])
+    (name_token (codes "T") ∷ mark (codes ";") ∷ mark (codes "}") ∷ mark (codes ")") ∷ mark (codes "]") ∷ mark (codes ";") ∷ [])
+
+-- typedef int T[sizeof(enum { | T })];
+-- nor by an enumerator
+abbrev pub EnumeratorNamedAsItsType : Type 0
+EnumeratorNamedAsItsType = RefusedBehind
+    (keyword (codes "typedef") ∷ keyword (codes "int") ∷ name_token (codes "T") ∷ mark (codes "[") ∷ keyword (codes "sizeof") ∷ mark (codes "(") ∷ keyword (codes "enum") ∷ mark (codes "{") ∷ [])
+    (name_token (codes "T") ∷ mark (codes "}") ∷ mark (codes ")") ∷ mark (codes "]") ∷ mark (codes ";") ∷ [])

@@ -1,7 +1,7 @@
 //! What the grammar reads, on examples.
 
-ghost use Rattle.grammar_examples.specs.Examples.{ArrayOfPointers, PointerToFunction, Differences, Assignments, Choices, InnerElse, SizeOfAType, SizeOfAValue, CastOfAMinus, MinusBehindBrackets, StructWithValue, Enumeration, CastToANewType, ForWithDeclaration, Cases, Jump, Postfix};
-ghost use Rattle.grammar_examples.specs.Refusals.{TypeDeclaredAgain, DifferenceAssigned, CaseWithoutASwitch, BreakWithoutALoop, BracketsRoundAName, LongChar, FunctionWithAValue};
+ghost use Rattle.grammar_examples.specs.Examples.{ArrayOfPointers, PointerToFunction, Differences, Assignments, Choices, InnerElse, SizeOfAType, SizeOfAValue, CastOfAMinus, MinusBehindBrackets, StructWithValue, Enumeration, CastToANewType, ForWithDeclaration, Cases, Jump, Postfix, SizeOfItsOwnName};
+ghost use Rattle.grammar_examples.specs.Refusals.{TypeDeclaredAgain, DifferenceAssigned, CaseWithoutASwitch, BreakWithoutALoop, BracketsRoundAName, LongChar, FunctionWithAValue, ParameterNamedAsItsType, MemberNamedAsItsType, EnumeratorNamedAsItsType};
 
 /// Each of these small programs spells the tokens of the text beside it in `specs/Examples.antt`, and is read back from them.
 pub fn examples_are_read_back()
@@ -22,6 +22,7 @@ pub fn examples_are_read_back()
     ensures cases { Cases }
     ensures jump { Jump }
     ensures postfix { Postfix }
+    ensures size_of_its_own_name { SizeOfItsOwnName }
 {}
 
 /// In each of these texts the token behind the bar in `specs/Refusals.antt` is refused, as no rule goes on with it.
@@ -33,4 +34,7 @@ pub fn examples_are_refused()
     ensures brackets_round_a_name { BracketsRoundAName }
     ensures long_char { LongChar }
     ensures function_with_a_value { FunctionWithAValue }
+    ensures parameter_named_as_its_type { ParameterNamedAsItsType }
+    ensures member_named_as_its_type { MemberNamedAsItsType }
+    ensures enumerator_named_as_its_type { EnumeratorNamedAsItsType }
 {}

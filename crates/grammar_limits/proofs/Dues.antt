@@ -6,7 +6,7 @@ use Rattle.c_grammar.specs.declared.kind.Kind.TheVariants as k
 use Rattle.c_grammar.specs.Kind.{same_kind}
 use Rattle.c_tree.specs.TypeWords.{is_among}
 use Rattle.c_grammar.specs.Body.{done, stop, look, take, spend, rise, call, strict, scope}
-use Rattle.c_grammar.specs.Rules.{Rule, Result, Reads, Types, rule, expect, named_by, a_name}
+use Rattle.c_grammar.specs.Rules.{Rule, Result, Reads, rule, expect, named_by, naming}
 use Rattle.c_grammar.specs.Rules as r
 use Rattle.grammar_limits.proofs.Saving.{Dues, Saves, Saving}
 
@@ -40,7 +40,7 @@ depth r.more_texts = 20
 depth (r.all_arguments t d) = d + 20
 depth (r.more_arguments t d) = d + 20
 depth (r.a_type t d) = d + 20
-depth (r.all_specifiers t d ws) = d + 20
+depth (r.all_specifiers t d b ws) = d + 20
 depth (r.a_struct t d) = d + 20
 depth (r.all_members t d) = d + 21
 depth (r.more_members t d) = d + 21
@@ -51,7 +51,7 @@ depth (r.all_enumerators t d) = d + 20
 depth (r.more_enumerators t d) = d + 20
 depth r.all_stars = 20
 depth r.all_quals = 20
-depth (r.a_declarator t d f ns) = d + 20
+depth (r.a_declarator t d f y) = d + 20
 depth (r.all_sizes t d) = d + 20
 depth (r.at_most_one_size t d) = d + 20
 depth (r.all_parameters t d) = d + 20
@@ -114,10 +114,10 @@ module _ {A : Type 0} {kept over u c s : ℕ} where
   pub safe_rise : {b : Reads A} → s ≤ 0 → Safe b kept over u c 1 → Safe (rise b) kept over u c s
   safe_rise h i = record { is = (h, i.is) }
 
-  pub safe_call : {q : Rule} {f : Result q → Reads A} → owes q ≤ 5 → wants q ≤ c → depth q ≤ u → s + surplus q ≤ 0 → ((v : Result q) → Safe (f v) kept over u (c + gain q) s) → Safe (call q f) kept over u c s
+  pub safe_call : {q : Rule} {f : Result q → Reads A} → owes q ≤ 5 → wants q ≤ c → depth q ≤ u → s + surplus q ≤ over → ((v : Result q) → Safe (f v) kept over u (c + gain q) (s + surplus q)) → Safe (call q f) kept over u c s
   safe_call h i j l m = record { is = (h, i, j, l, λ v. (m v).is) }
 
-  pub safe_strict : {q : Rule} {f : Result q → Reads A} → owes q ≤ 5 → wants q ≤ c → depth q ≤ u → s + surplus q ≤ 0 → ((v : Result q) → Safe (f v) kept over u (c + gain q) s) → Safe (strict q f) kept over u c s
+  pub safe_strict : {q : Rule} {f : Result q → Reads A} → owes q ≤ 5 → wants q ≤ c → depth q ≤ u → s + surplus q ≤ over → ((v : Result q) → Safe (f v) kept over u (c + gain q) (s + surplus q)) → Safe (strict q f) kept over u c s
   safe_strict h i j l m = record { is = (h, i, j, l, λ v. (m v).is) }
 
   pub safe_scope : {n : ℕ} {q : Rule} {f : Result q → Reads A} → owes q ≤ 5 → wants q ≤ c → depth q + surplus q ≤ u → n + surplus q ≤ u → s ≤ 0 →
@@ -136,8 +136,13 @@ module _ {A : Type 0} {kept over u c s : ℕ} where
   safe_named ns h k.Name = safe_take (λ n. safe_if (is_among ns n) safe_stop (h n))
   safe_named ns h _ = safe_stop
 
-  pub safe_name : {t : Types} {f : Name → Reads A} → ((n : Name) → Safe (f n) kept over (u + 1) (c + 100) (s - 1)) → Safe (a_name t f) kept over u c s
+  pub safe_name : {types : List Name} {f : Name → Reads A} → ((n : Name) → Safe (f n) kept over (u + 1) (c + 100) (s - 1)) → Safe (look types (named_by [] f)) kept over u c s
   safe_name h = safe_look (λ e. safe_named [] h e)
+
+  -- where the next token makes a name necessary, or does not
+  pub safe_naming : (b : Bool) (d : ℕ) {p : Reads A} → 1 ≤ c → d + 1 ≤ u → Safe p kept over u (c - 1) s → Safe p kept over u c s → Safe (naming b d p) kept over u c s
+  safe_naming true d h i j l = safe_spend h i j
+  safe_naming false d h i j l = l
 
 -- a rule keeps to what is due
 abbrev pub Due : Rule → Type 0

@@ -7,8 +7,8 @@ use Rattle.c_grammar.specs.declared.kind.Kind.{Kind}
 use Rattle.c_grammar.specs.declared.kind.Kind.TheVariants as k
 use Rattle.c_grammar.specs.Body.{done}
 use Rattle.c_grammar.specs.Body as body
-use Rattle.c_grammar.specs.Rules.{Types, begins_declarator, has_initializer, initializer_by, initializers_by, next_initializer_by, more_initializers_by, declaration_by, declared_names_by, named_init_by, more_named_by, an_initializer, all_initializers, more_initializers, a_declaration, a_declared, a_named, more_named}
-use Rattle.grammar_limits.proofs.Dues.{Safe, Due, safe_done, safe_stop, safe_look, safe_take, safe_spend, safe_call, safe_if, safe_expect, safe_name}
+use Rattle.c_grammar.specs.Rules.{Types, naming, begins_declarator, has_initializer, initializer_by, initializers_by, next_initializer_by, more_initializers_by, declaration_by, declared_names_by, named_init_by, more_named_by, an_initializer, all_initializers, more_initializers, a_declaration, a_declared, a_named, more_named}
+use Rattle.grammar_limits.proofs.Dues.{Safe, Due, safe_done, safe_stop, safe_look, safe_take, safe_spend, safe_call, safe_if, safe_expect, safe_name, safe_naming}
 
 initializer-by : (t : Types) (d o : ℕ) (e : Kind) → o ≤ 5 → Safe (initializer_by t d o e) 10 0 (d + 20) 10 0
 initializer-by t d o k.OpenBrace low = safe_spend (omega arith) (omega arith) (safe_take (λ _. safe_call (omega arith) (omega arith) (omega arith) (omega arith) (λ _. safe_done (omega arith) (omega arith))))
@@ -47,8 +47,8 @@ pub declaration-due : (t : Types) (d : ℕ) → Due (a_declaration t d)
 declaration-due t d low = safe_look (λ e. declaration-by t d e)
 
 first-named : (t : Types) (d : ℕ) (c : Storage) (ws : Specifiers) (b : Bool) →
-    Safe {A = DeclarationTree} (cond b (body.spend 1 (d + 1) (body.call (a_named t d) (λ n. body.call (more_named t d) (λ ns. done (record { storage = c; specs = ws; names = n ∷ ns }))))) body.stop) 60 0 (d + 21) 20 0
-first-named t d c ws b = safe_if b (safe_spend (omega arith) (omega arith) (safe_call (omega arith) (omega arith) (omega arith) (omega arith) (λ _. safe_call (omega arith) (omega arith) (omega arith) (omega arith) (λ _. safe_done (omega arith) (omega arith))))) safe_stop
+    Safe {A = DeclarationTree} (cond b (naming (has_tag ws) d (body.call (a_named t d) (λ n. body.call (more_named t d) (λ ns. done (record { storage = c; specs = ws; names = n ∷ ns }))))) body.stop) 60 0 (d + 21) 20 0
+first-named t d c ws b = safe_if b (safe_naming (has_tag ws) d (omega arith) (omega arith) (safe_call (omega arith) (omega arith) (omega arith) (omega arith) (λ _. safe_call (omega arith) (omega arith) (omega arith) (omega arith) (λ _. safe_done (omega arith) (omega arith)))) (safe_call (omega arith) (omega arith) (omega arith) (omega arith) (λ _. safe_call (omega arith) (omega arith) (omega arith) (omega arith) (λ _. safe_done (omega arith) (omega arith))))) safe_stop
 
 declared-names-by : (t : Types) (d : ℕ) (c : Storage) (ws : Specifiers) (e : Kind) → Safe (declared_names_by t d c ws e) 60 0 (d + 21) 20 0
 declared-names-by t d c ws k.Semicolon = safe_if (has_tag ws) (safe_take (λ _. safe_done (omega arith) (omega arith))) safe_stop

@@ -1,10 +1,10 @@
 -- The rules of declarators and parameters keep to what is due.
-use Rattle.std.proofs.Common.{ℕ, ◌+◌, ◌≤◌, Bool, List, [], arith}
+use Rattle.std.proofs.Common.{ℕ, ◌+◌, ◌≤◌, Bool, arith}
 use Rattle.c_tree.specs.Tree.{Name, Stars, Quals, Specifiers}
 use Rattle.c_grammar.specs.declared.kind.Kind.{Kind}
 use Rattle.c_grammar.specs.declared.kind.Kind.TheVariants as k
-use Rattle.c_grammar.specs.Rules.{Types, stars_by, quals_by, declared_by, declarator_by, size_by, sizes_by, one_size_by, at_most_one_by, parameters_by, more_parameters_by, parameter_name_by, parameter_pointer_by, parameter_by, bare_by, all_stars, all_quals, a_declarator, all_sizes, at_most_one_size, all_parameters, some_parameters, more_parameters, a_parameter, a_bare}
-use Rattle.grammar_limits.proofs.Dues.{Safe, Due, safe_done, safe_stop, safe_look, safe_take, safe_spend, safe_rise, safe_call, safe_scope, safe_if, safe_expect, safe_named}
+use Rattle.c_grammar.specs.Rules.{Types, inside, stars_by, quals_by, declared_by, declarator_by, size_by, sizes_by, one_size_by, at_most_one_by, parameters_by, more_parameters_by, parameter_name_by, parameter_pointer_by, parameter_by, bare_by, all_stars, all_quals, a_declarator, all_sizes, at_most_one_size, all_parameters, some_parameters, more_parameters, a_parameter, a_bare}
+use Rattle.grammar_limits.proofs.Dues.{Safe, Due, safe_done, safe_stop, safe_look, safe_take, safe_spend, safe_rise, safe_call, safe_scope, safe_if, safe_expect, safe_name}
 
 stars-by : (e : Kind) → Safe (stars_by e) 10 0 20 10 0
 stars-by k.Star = safe_take (λ _. safe_call (omega arith) (omega arith) (omega arith) (omega arith) (λ _. safe_call (omega arith) (omega arith) (omega arith) (omega arith) (λ _. safe_done (omega arith) (omega arith))))
@@ -21,19 +21,24 @@ quals-by _ = safe_done (omega arith) (omega arith)
 pub quals-due : Due all_quals
 quals-due low = safe_look (λ e. quals-by e)
 
-declared-by : (t : Types) (d u : ℕ) (f : Bool) (ss : Stars) (n : Name) (e : Kind) → d + 20 ≤ u → Safe (declared_by t d f ss n e) 10 0 u 110 0
-declared-by t d u f ss n k.OpenBracket room = safe_call (omega arith) (omega arith) (omega arith) (omega arith) (λ _. safe_done (omega arith) (omega arith))
-declared-by t d u f ss n k.OpenParen room = safe_if f (safe_take (λ _. safe_call (omega arith) (omega arith) (omega arith) (omega arith) (λ _. safe_done (omega arith) (omega arith)))) (safe_done (omega arith) (omega arith))
-declared-by t d u f ss n _ room = safe_done (omega arith) (omega arith)
+-- behind the stars and the name of a declarator, where the deepest node may be left so much too deep
+pub declared-by : (t : Types) (d over u s : ℕ) (f : Bool) (ss : Stars) (n : Name) (e : Kind) → d + 20 ≤ u → s ≤ over → Safe (declared_by t d f ss n e) 10 over u 110 s
+declared-by t d over u s f ss n k.OpenBracket room less = safe_call (omega arith) (omega arith) (omega arith) (omega arith) (λ _. safe_done (omega arith) (omega arith))
+declared-by t d over u s f ss n k.OpenParen room less = safe_if f (safe_take (λ _. safe_call (omega arith) (omega arith) (omega arith) (omega arith) (λ _. safe_done (omega arith) (omega arith)))) (safe_done (omega arith) (omega arith))
+declared-by t d over u s f ss n _ room less = safe_done (omega arith) (omega arith)
 
-declarator-by : (t : Types) (d : ℕ) (f : Bool) (ns : List Name) (ss : Stars) (e : Kind) → Safe (declarator_by t d f ns ss e) 10 0 (d + 20) 10 0
-declarator-by t d f ns ss k.Name = safe_take (λ n. safe_look (λ e. declared-by t d _ f ss n e (omega arith)))
-declarator-by t d f ns ss k.OpenParen = safe_take (λ _. safe_expect k.Star (safe_call (omega arith) (omega arith) (omega arith) (omega arith) (λ _. safe_look (λ e. safe_named [] (λ _. safe_call (omega arith) (omega arith) (omega arith) (omega arith) (λ _. safe_expect k.CloseParen (safe_expect k.OpenParen (safe_call (omega arith) (omega arith) (omega arith) (omega arith) (λ _. safe_done (omega arith) (omega arith)))))) e))))
-declarator-by t d f ns ss _ = safe_stop
+-- a pointer to a function, where the deepest node may be so much too deep before its bracket
+pub pointer-by : (t : Types) (d over u s : ℕ) (f y : Bool) (ss : Stars) → d + 18 ≤ u → 19 ≤ u → s ≤ 1 → Safe (declarator_by t d f y ss k.OpenParen) 10 over u 10 s
+pointer-by t d over u s f y ss room high less = safe_take (λ _. safe_expect k.Star (safe_call (omega arith) (omega arith) (omega arith) (omega arith) (λ _. safe_name (λ _. safe_call (omega arith) (omega arith) (omega arith) (omega arith) (λ _. safe_expect k.CloseParen (safe_expect k.OpenParen (safe_call (omega arith) (omega arith) (omega arith) (omega arith) (λ _. safe_done (omega arith) (omega arith)))))))))
+
+declarator-by : (t : Types) (d : ℕ) (f y : Bool) (ss : Stars) (e : Kind) → Safe (declarator_by t d f y ss e) 10 0 (d + 20) 10 0
+declarator-by t d f y ss k.Name = safe_take (λ n. safe_look (λ e. declared-by (inside y n t) d _ _ _ f ss n e (omega arith) (omega arith)))
+declarator-by t d f y ss k.OpenParen = pointer-by t d 0 (d + 20) 0 f y ss (omega arith) (omega arith) (omega arith)
+declarator-by t d f y ss _ = safe_stop
 
 -- a declarator
-pub declarator-due : (t : Types) (d : ℕ) (f : Bool) (ns : List Name) → Due (a_declarator t d f ns)
-declarator-due t d f ns low = safe_call (omega arith) (omega arith) (omega arith) (omega arith) (λ x. safe_look (λ e. declarator-by t d f ns x e))
+pub declarator-due : (t : Types) (d : ℕ) (f y : Bool) → Due (a_declarator t d f y)
+declarator-due t d f y low = safe_call (omega arith) (omega arith) (omega arith) (omega arith) (λ x. safe_look (λ e. declarator-by t d f y x e))
 
 size-by : (t : Types) (d u : ℕ) (e : Kind) → d + 20 ≤ u → Safe (size_by t d e) 10 0 u 110 0
 size-by t d u k.CloseBracket room = safe_take (λ _. safe_call (omega arith) (omega arith) (omega arith) (omega arith) (λ _. safe_done (omega arith) (omega arith)))

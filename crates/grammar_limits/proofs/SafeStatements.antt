@@ -1,13 +1,13 @@
 -- The rules of statements keep to what is due.
-use Rattle.std.proofs.Common.{ℕ, ◌+◌, ◌≤◌, Bool, ◌||◌, cond, arith}
-use Rattle.c_tree.specs.Tree.{Name, Expression, StatementTree, declaration}
+use Rattle.std.proofs.Common.{ℕ, ◌+◌, ◌≤◌, Bool, ◌||◌, cond, Some, arith}
+use Rattle.c_tree.specs.Tree.{Name, Expression, StatementTree, name, declaration, expression_statement}
 use Rattle.c_tree.specs.Shape.{Place}
 use Rattle.c_grammar.specs.declared.kind.Kind.{Kind}
 use Rattle.c_grammar.specs.declared.kind.Kind.TheVariants as k
 use Rattle.c_grammar.specs.Body.{done}
 use Rattle.c_grammar.specs.Body as body
 use Rattle.c_grammar.specs.Kind.{same_kind}
-use Rattle.c_grammar.specs.Rules.{Types, begins_declaration, else_by, expressed, labelled_by, statement_by, statements_by, a_declaration, an_optional, a_start, a_statement, all_statements}
+use Rattle.c_grammar.specs.Rules.{Types, expect, begins_declaration, else_by, expressed, follows_name, labelled_by, statement_by, statements_by, a_rest, a_declaration, an_optional, a_start, a_statement, all_statements}
 use Rattle.grammar_limits.proofs.Dues.{Safe, Due, safe_done, safe_stop, safe_look, safe_take, safe_spend, safe_call, safe_strict, safe_scope, safe_if, safe_expect, safe_name}
 
 -- an expression or none
@@ -22,9 +22,14 @@ else-by : (t : Types) (d : ℕ) (p : Place) (x : Expression) (y : StatementTree)
 else-by t d p x y u c k.Else room h = safe_spend (omega arith) (omega arith) (safe_take (λ _. safe_call (omega arith) (omega arith) (omega arith) (omega arith) (λ _. safe_done (omega arith) (omega arith))))
 else-by t d p x y u c _ room h = safe_done (omega arith) (omega arith)
 
+-- a statement that begins with a name as an expression, where it goes on so
+name-first : (t : Types) (d : ℕ) (n : Name) (u c : ℕ) (b : Bool) → d + 22 ≤ u → 40 ≤ c →
+    Safe (cond b (body.spend 1 (d + 2) (body.scope (d + 2) (a_rest t (d + 1) 1 (name n)) (λ x. expect k.Semicolon (done (expression_statement (Some x)))))) body.stop) 30 0 u c 0
+name-first t d n u c b room h = safe_if b (safe_spend (omega arith) (omega arith) (safe_scope (omega arith) (omega arith) (omega arith) (omega arith) (omega arith) (λ _. safe_expect k.Semicolon (safe_done (omega arith) (omega arith))))) safe_stop
+
 labelled-by : (t : Types) (d : ℕ) (n : Name) (u c : ℕ) (e : Kind) → d + 22 ≤ u → 40 ≤ c → Safe (labelled_by t d n e) 30 0 u c 0
 labelled-by t d n u c k.Colon room h = safe_take (λ _. safe_done (omega arith) (omega arith))
-labelled-by t d n u c _ room h = safe_spend (omega arith) (omega arith) (safe_scope (omega arith) (omega arith) (omega arith) (omega arith) (omega arith) (λ _. safe_expect k.Semicolon (safe_done (omega arith) (omega arith))))
+labelled-by t d n u c e room h = name-first t d n u c (follows_name e) room h
 
 expressed-by : (t : Types) (d o : ℕ) → o + 1 ≤ 5 → Safe (expressed t d o) 30 0 (d + 22) 30 0
 expressed-by t d o low = safe_call (omega arith) (omega arith) (omega arith) (omega arith) (λ _. safe_expect k.Semicolon (safe_done (omega arith) (omega arith)))

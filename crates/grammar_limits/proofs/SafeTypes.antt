@@ -1,13 +1,13 @@
 -- The rules of types keep to what is due.
-use Rattle.std.proofs.Common.{ℕ, ◌+◌, ◌≤◌, Bool, cond, List, [], ◌∷◌, ◌++◌, arith}
-use Rattle.c_tree.specs.Tree.{Name}
+use Rattle.std.proofs.Common.{ℕ, ◌+◌, ◌≤◌, Bool, false, cond, List, [], ◌∷◌, ◌++◌, arith}
+use Rattle.c_tree.specs.Tree.{Name, Specifier, specifiers, type_name}
 use Rattle.c_tree.specs.TypeWords.{TypeWord, of_whole, is_one_type}
 use Rattle.c_grammar.specs.declared.kind.Kind.{Kind}
 use Rattle.c_grammar.specs.declared.kind.Kind.TheVariants as k
 use Rattle.c_grammar.specs.Body.{done}
 use Rattle.c_grammar.specs.Body as body
-use Rattle.c_grammar.specs.Rules.{Types, Start, no_specifier, a_qualifier, a_type_word, a_type_name, a_struct_word, an_enum_word, start_of, begins_type, ends_type, specifiers_by, struct_body_by, struct_by, more_members_by, more_declarators_by, enum_body_by, enum_by, enumerator_by, next_enumerator_by, more_enumerators_by, a_type, all_specifiers, a_struct, all_members, more_members, all_declarators, more_declarators, an_enum, all_enumerators, more_enumerators}
-use Rattle.grammar_limits.proofs.Dues.{Safe, Due, safe_done, safe_stop, safe_look, safe_take, safe_spend, safe_call, safe_if, safe_expect, safe_name}
+use Rattle.c_grammar.specs.Rules.{Types, Start, no_specifier, a_qualifier, a_type_word, a_type_name, a_struct_word, an_enum_word, start_of, begins_type, ends_type, naming, specifiers_by, struct_body_by, struct_by, more_members_by, more_declarators_by, enum_body_by, enum_by, enumerator_by, next_enumerator_by, more_enumerators_by, a_type, all_specifiers, a_struct, all_members, more_members, all_declarators, more_declarators, an_enum, all_enumerators, more_enumerators}
+use Rattle.grammar_limits.proofs.Dues.{Safe, Due, safe_done, safe_stop, safe_look, safe_take, safe_spend, safe_call, safe_if, safe_expect, safe_name, safe_naming}
 
 pub type-due : (t : Types) (d : ℕ) → Due (a_type t d)
 type-due t d low = safe_call (omega arith) (omega arith) (omega arith) (omega arith) (λ _. safe_call (omega arith) (omega arith) (omega arith) (omega arith) (λ _. safe_done (omega arith) (omega arith)))
@@ -16,17 +16,21 @@ type-due t d low = safe_call (omega arith) (omega arith) (omega arith) (omega ar
 ends-by : (t : Types) (d : ℕ) (ws : List TypeWord) → Safe (ends_type ws) 10 0 (d + 20) 10 0
 ends-by t d ws = safe_if (is_one_type ws) (safe_done (omega arith) (omega arith)) safe_stop
 
-specifiers-by : (t : Types) (d : ℕ) (ws : List TypeWord) (s : Start) → Safe (specifiers_by t d ws s) 10 0 (d + 20) 10 0
-specifiers-by t d ws no_specifier = ends-by t d ws
-specifiers-by t d ws (a_qualifier x) = safe_take (λ _. safe_call (omega arith) (omega arith) (omega arith) (omega arith) (λ _. safe_done (omega arith) (omega arith)))
-specifiers-by t d ws (a_type_word w x) = safe_if (is_one_type (ws ++ w ∷ [])) (safe_take (λ _. safe_call (omega arith) (omega arith) (omega arith) (omega arith) (λ _. safe_done (omega arith) (omega arith)))) (ends-by t d ws)
-specifiers-by t d ws a_type_name = safe_if (is_one_type (ws ++ of_whole ∷ [])) (safe_take (λ _. safe_call (omega arith) (omega arith) (omega arith) (omega arith) (λ _. safe_done (omega arith) (omega arith)))) (ends-by t d ws)
-specifiers-by t d ws a_struct_word = safe_if (is_one_type (ws ++ of_whole ∷ [])) (safe_take (λ _. safe_call (omega arith) (omega arith) (omega arith) (omega arith) (λ _. safe_call (omega arith) (omega arith) (omega arith) (omega arith) (λ _. safe_done (omega arith) (omega arith))))) (ends-by t d ws)
-specifiers-by t d ws an_enum_word = safe_if (is_one_type (ws ++ of_whole ∷ [])) (safe_take (λ _. safe_call (omega arith) (omega arith) (omega arith) (omega arith) (λ _. safe_call (omega arith) (omega arith) (omega arith) (omega arith) (λ _. safe_done (omega arith) (omega arith))))) (ends-by t d ws)
+-- behind a word of a type, whose token pays for a name as well
+word-by : (t : Types) (d : ℕ) (b : Bool) (ws : List TypeWord) (f : Name → Specifier) → Safe (naming b d (body.take (λ n. body.call (all_specifiers t d false ws) (λ xs. done (specifiers (f n) xs))))) 10 0 (d + 20) 10 0
+word-by t d b ws f = safe_naming b d (omega arith) (omega arith) (safe_take (λ _. safe_call (omega arith) (omega arith) (omega arith) (omega arith) (λ _. safe_done (omega arith) (omega arith)))) (safe_take (λ _. safe_call (omega arith) (omega arith) (omega arith) (omega arith) (λ _. safe_done (omega arith) (omega arith))))
+
+specifiers-by : (t : Types) (d : ℕ) (b : Bool) (ws : List TypeWord) (s : Start) → Safe (specifiers_by t d b ws s) 10 0 (d + 20) 10 0
+specifiers-by t d b ws no_specifier = ends-by t d ws
+specifiers-by t d b ws (a_qualifier x) = safe_take (λ _. safe_call (omega arith) (omega arith) (omega arith) (omega arith) (λ _. safe_done (omega arith) (omega arith)))
+specifiers-by t d b ws (a_type_word w x) = safe_if (is_one_type (ws ++ w ∷ [])) (word-by t d b (ws ++ w ∷ []) (λ _. x)) (ends-by t d ws)
+specifiers-by t d b ws a_type_name = safe_if (is_one_type (ws ++ of_whole ∷ [])) (word-by t d b (ws ++ of_whole ∷ []) type_name) (ends-by t d ws)
+specifiers-by t d b ws a_struct_word = safe_if (is_one_type (ws ++ of_whole ∷ [])) (safe_take (λ _. safe_call (omega arith) (omega arith) (omega arith) (omega arith) (λ _. safe_call (omega arith) (omega arith) (omega arith) (omega arith) (λ _. safe_done (omega arith) (omega arith))))) (ends-by t d ws)
+specifiers-by t d b ws an_enum_word = safe_if (is_one_type (ws ++ of_whole ∷ [])) (safe_take (λ _. safe_call (omega arith) (omega arith) (omega arith) (omega arith) (λ _. safe_call (omega arith) (omega arith) (omega arith) (omega arith) (λ _. safe_done (omega arith) (omega arith))))) (ends-by t d ws)
 
 -- the words of a type
-pub specifiers-due : (t : Types) (d : ℕ) (ws : List TypeWord) → Due (all_specifiers t d ws)
-specifiers-due t d ws low = safe_look (λ e. specifiers-by t d ws (start_of e))
+pub specifiers-due : (t : Types) (d : ℕ) (b : Bool) (ws : List TypeWord) → Due (all_specifiers t d b ws)
+specifiers-due t d b ws low = safe_look (λ e. specifiers-by t d b ws (start_of e))
 
 struct-body-by : (t : Types) (d u : ℕ) (n : Name) (e : Kind) → d + 20 ≤ u → Safe (struct_body_by t d n e) 10 0 u 110 0
 struct-body-by t d u n k.OpenBrace room = safe_spend (omega arith) (omega arith) (safe_take (λ _. safe_call (omega arith) (omega arith) (omega arith) (omega arith) (λ _. safe_done (omega arith) (omega arith))))

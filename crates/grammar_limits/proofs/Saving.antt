@@ -22,7 +22,7 @@ pub record Dues (R : Type 0) : Type 0 where
 
 module _ (R : Type 0) (V : R → Type 0) (dues : Dues R) where
   -- A body keeps so many nodes, and leaves the deepest so much too deep, if it may begin with c nodes, the depth u, and the
-  -- deepest so much too deep.
+  -- deepest so much too deep. What it calls may begin that much too deep, where the body may leave it so.
   abbrev pub Saves : {A : Type 0} → Body R V A → ℕ → ℕ → ℕ → ℕ → ℕ → Type 0
   Saves (done a) kept over u c s = (kept ≤ c) × (s ≤ over)
   Saves stop kept over u c s = Unit {0}
@@ -30,8 +30,8 @@ module _ (R : Type 0) (V : R → Type 0) (dues : Dues R) where
   Saves (take f) kept over u c s = (n : Name) → Saves (f n) kept over (u + 1) (c + 100) (s - 1)
   Saves (spend n d b) kept over u c s = (n ≤ c) × (d ≤ u) × Saves b kept over u (c - n) s
   Saves (rise b) kept over u c s = (s ≤ 0) × Saves b kept over u c 1
-  Saves (call r f) kept over u c s = (dues.owes r ≤ 5) × (dues.wants r ≤ c) × (dues.depth r ≤ u) × (s + dues.over r ≤ 0) × ((v : V r) → Saves (f v) kept over u (c + dues.gain r) s)
-  Saves (strict r f) kept over u c s = (dues.owes r ≤ 5) × (dues.wants r ≤ c) × (dues.depth r ≤ u) × (s + dues.over r ≤ 0) × ((v : V r) → Saves (f v) kept over u (c + dues.gain r) s)
+  Saves (call r f) kept over u c s = (dues.owes r ≤ 5) × (dues.wants r ≤ c) × (dues.depth r ≤ u) × (s + dues.over r ≤ over) × ((v : V r) → Saves (f v) kept over u (c + dues.gain r) (s + dues.over r))
+  Saves (strict r f) kept over u c s = (dues.owes r ≤ 5) × (dues.wants r ≤ c) × (dues.depth r ≤ u) × (s + dues.over r ≤ over) × ((v : V r) → Saves (f v) kept over u (c + dues.gain r) (s + dues.over r))
   Saves (scope n r f) kept over u c s =
       (dues.owes r ≤ 5) × (dues.wants r ≤ c) × (dues.depth r + dues.over r ≤ u) × (n + dues.over r ≤ u) × (s ≤ 0) × ((v : V r) → Saves (f v) kept over u (c + dues.gain r) s)
 
@@ -42,13 +42,13 @@ Ends all bound height kept over n (got a us y) = (length us ≤ n) × (y.peak + 
 Ends all bound height kept over n (refused us) = Unit {0}
 Ends all bound height kept over n (exceeded us) = length us + 900 ≤ all
 
--- before a body
-pub record Before (all bound height u c s : ℕ) (ts : Tokens) (m : Meter) : Type 0 where
+-- before a body, which may leave the deepest node so much too deep
+pub record Before (all bound height over u c s : ℕ) (ts : Tokens) (m : Meter) : Type 0 where
   pub few : bound ≤ 100 * all + 100
-  pub shallow : height ≤ all + 50
+  pub shallow : height + over ≤ all + 50
   pub made : m.made + c + 100 * length ts ≤ bound
   pub peak : m.peak + length ts ≤ height + s
-  pub slight : s ≤ 1
+  pub slight : s ≤ over + 1
   pub room : u + length ts ≤ height
 
 ends_more : {A : Type 0} (all bound height kept over n l : ℕ) (o : Outcome Meter A) → l ≤ n → Ends all bound height kept over l o → Ends all bound height kept over n o
@@ -91,11 +91,11 @@ then_ends all bound height kept over bound' height' kept' over' n (exceeded us) 
 module _ (R : Type 0) (V : R → Type 0) (dues : Dues R) (all : ℕ) where
   -- a reader keeps to what is due
   abbrev pub Keeps : ((r : R) → Reader Meter (V r)) → Type 0
-  Keeps h = (bound height : ℕ) (r : R) (ts : Tokens) (m : Meter) → dues.owes r ≤ 5 → Before all bound height (dues.depth r) (dues.wants r) 0 ts m →
+  Keeps h = (bound height : ℕ) (r : R) (ts : Tokens) (m : Meter) → dues.owes r ≤ 5 → Before all bound height (dues.over r) (dues.depth r) (dues.wants r) 0 ts m →
       Ends all bound height (dues.wants r + dues.gain r) (dues.over r) (length ts) (h r ts m)
 
   exec_ends : (rank : R → ℕ) (h : (r : R) → Reader Meter (V r)) → Keeps h → {A : Type 0} (bound height kept over : ℕ) (free : Bool) (limit : ℕ) (b : Body R V A) (u c s : ℕ) (ts : Tokens) (m : Meter) →
-      Saves R V dues b kept over u c s → Before all bound height u c s ts m → Ends all bound height kept over (length ts) (exec R V rank Meter limited h free limit b ts m)
+      Saves R V dues b kept over u c s → Before all bound height over u c s ts m → Ends all bound height kept over (length ts) (exec R V rank Meter limited h free limit b ts m)
   exec_ends rank h keeps bound height kept over free limit (done a) u c s ts m k i = (omega arith, omega (arith, i, k), omega (arith, i, k))
   exec_ends rank h keeps bound height kept over free limit stop u c s ts m k i = tt
   exec_ends rank h keeps bound height kept over free limit (look types f) u c s ts m k i = exec_ends rank h keeps bound height kept over free limit (f (kind types ts)) u c s ts m (k (kind types ts)) i
@@ -110,17 +110,17 @@ module _ (R : Type 0) (V : R → Type 0) (dues : Dues R) (all : ℕ) where
       paid_ends all bound height kept over ts (raised m) _ (omega (arith, i, k)) (omega (arith, i, k)) (exec_ends rank h keeps bound height kept over free limit b u c 1 ts (raised m) k.1
       (record { few = i.few; shallow = i.shallow; made = omega (arith, i, k); peak = omega (arith, i, k.0); slight = omega arith; room = i.room }))
   exec_ends rank h keeps bound height kept over free limit (call r f) u c s ts m k i =
-      if_ends all bound height kept over (length ts) (free || nat_lt (rank r) limit) _ ts (then_ends all bound height kept over (m.made + dues.wants r + 100 * length ts) height (dues.wants r + dues.gain r) (dues.over r) (length ts) (h r ts m) _
-      (keeps (m.made + dues.wants r + 100 * length ts) height r ts m k.0
-      (record { few = omega (arith, i, k); shallow = i.shallow; made = omega arith; peak = omega (arith, i, k); slight = omega arith; room = omega (arith, i, k) }))
-      (λ v us y less deep few. exec_ends rank h keeps bound height kept over free limit (f v) u (c + dues.gain r) s us y (k.4 v)
-      (record { few = i.few; shallow = i.shallow; made = omega (arith, i, k, few); peak = omega (arith, i, k, deep); slight = i.slight; room = omega (arith, i, less) })))
+      if_ends all bound height kept over (length ts) (free || nat_lt (rank r) limit) _ ts (then_ends all bound height kept over (m.made + dues.wants r + 100 * length ts) (height + s) (dues.wants r + dues.gain r) (dues.over r) (length ts) (h r ts m) _
+      (keeps (m.made + dues.wants r + 100 * length ts) (height + s) r ts m k.0
+      (record { few = omega (arith, i, k); shallow = omega (arith, i, k); made = omega arith; peak = omega (arith, i, k); slight = omega arith; room = omega (arith, i, k) }))
+      (λ v us y less deep few. exec_ends rank h keeps bound height kept over free limit (f v) u (c + dues.gain r) (s + dues.over r) us y (k.4 v)
+      (record { few = i.few; shallow = i.shallow; made = omega (arith, i, k, few); peak = omega (arith, i, k, deep); slight = omega (arith, k); room = omega (arith, i, less) })))
   exec_ends rank h keeps bound height kept over free limit (strict r f) u c s ts m k i =
-      if_ends all bound height kept over (length ts) (free || nat_lt (rank r) limit) _ ts (then_ends all bound height kept over (m.made + dues.wants r + 100 * length ts) height (dues.wants r + dues.gain r) (dues.over r) (length ts) (h r ts m) _
-      (keeps (m.made + dues.wants r + 100 * length ts) height r ts m k.0
-      (record { few = omega (arith, i, k); shallow = i.shallow; made = omega arith; peak = omega (arith, i, k); slight = omega arith; room = omega (arith, i, k) }))
-      (λ v us y less deep few. if_ends all bound height kept over (length us) (nat_lt (length us) (length ts)) _ us (exec_ends rank h keeps bound height kept over true limit (f v) u (c + dues.gain r) s us y (k.4 v)
-      (record { few = i.few; shallow = i.shallow; made = omega (arith, i, k, few); peak = omega (arith, i, k, deep); slight = i.slight; room = omega (arith, i, less) }))))
+      if_ends all bound height kept over (length ts) (free || nat_lt (rank r) limit) _ ts (then_ends all bound height kept over (m.made + dues.wants r + 100 * length ts) (height + s) (dues.wants r + dues.gain r) (dues.over r) (length ts) (h r ts m) _
+      (keeps (m.made + dues.wants r + 100 * length ts) (height + s) r ts m k.0
+      (record { few = omega (arith, i, k); shallow = omega (arith, i, k); made = omega arith; peak = omega (arith, i, k); slight = omega arith; room = omega (arith, i, k) }))
+      (λ v us y less deep few. if_ends all bound height kept over (length us) (nat_lt (length us) (length ts)) _ us (exec_ends rank h keeps bound height kept over true limit (f v) u (c + dues.gain r) (s + dues.over r) us y (k.4 v)
+      (record { few = i.few; shallow = i.shallow; made = omega (arith, i, k, few); peak = omega (arith, i, k, deep); slight = omega (arith, k); room = omega (arith, i, less) }))))
   exec_ends rank h keeps bound height kept over free limit (scope n r f) u c s ts m k i =
       if_ends all bound height kept over (length ts) (free || nat_lt (rank r) limit) _ ts
       (then_ends all bound height kept over (m.made + dues.wants r + 100 * length ts) (height - dues.over r) (dues.wants r + dues.gain r) (dues.over r) (length ts) (h r ts (entered n m)) _

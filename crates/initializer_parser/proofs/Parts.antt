@@ -44,7 +44,7 @@ module _ (t : Types) (d : ℕ) where
   behind_by : (x : Option Name × Initializer) (y : Kind) (j : Input) →
       and_then (perform (more_initializers_by t d y) j) (λ ps us m. got (with_part x ps) us m) ≡ and_then (mapped (λ y. y) (perform (behind_part_by t x y) j)) others
   behind_by x k.CloseBrace j = refl
-  behind_by x k.Comma j = next_on x (kind t (next j).rest) (next j)
+  behind_by x k.Comma j = next_on x (kind t.names (next j).rest) (next j)
   behind_by x _ j = refl
 
   behind_on : {x : Option Name × Initializer} {j : Input} → Joins (λ y. y) others (body.call (more_initializers t d) (λ ps. done (with_part x ps))) (look [] (behind_part_by t x)) j
@@ -52,7 +52,7 @@ module _ (t : Types) (d : ℕ) where
       record { is = ap (λ o. and_then o (λ ps us m. got (with_part x ps) us m)) (more_initializers_performs t d j) ∙ behind_by x (kind [] j.rest) j }
 
   part_on : (owed : ℕ) (y : Kind) (j : Input) → Joins (λ y. y) others (initializers_by t d owed y) (part_by t d owed y) j
-  part_on owed k.Dot j = join_spend (λ m. join_skip (join_name t (λ n. join_expect k.Assign (join_call (λ x us p. behind_on {x = (Some n, x)})))))
+  part_on owed k.Dot j = join_spend (λ m. join_skip (join_name t.names (λ n. join_expect k.Assign (join_call (λ x us p. behind_on {x = (Some n, x)})))))
   part_on owed _ j = join_call (λ x us p. behind_on {x = (None, x)})
 
   parts_on : (owed : ℕ) (i : Input) → read (all_initializers t d owed) i ≡ and_then (perform (one_part t d owed) i) others
@@ -79,14 +79,14 @@ module _ (t : Types) (d : ℕ) where
 
   behind_under : (n : ℕ) (x : Option Name × Initializer) (y : Kind) (j : Input) → (y ≢ k.Nothing → length (tail_of j.rest) < n) → Under n (perform (behind_part_by t x y) j)
   behind_under n x k.CloseBrace j less = less (λ e. absurd cc)
-  behind_under n x k.Comma j less = next_under n x (kind t (next j).rest) (next j) (less (λ e. absurd cc))
+  behind_under n x k.Comma j less = next_under n x (kind t.names (next j).rest) (next j) (less (λ e. absurd cc))
   behind_under n x _ j less = tt
 
   under_behind : (n : ℕ) (x : Option Name × Initializer) (j : Input) → length j.rest ≤ n → Under n (perform (look [] (behind_part_by t x)) j)
   under_behind n x j less = behind_under n x (kind [] j.rest) j (λ some. let h = taken_shorter [] j.rest (kind [] j.rest) refl some in omega (arith, h, less))
 
   part_under : (n owed : ℕ) (y : Kind) (i : Input) → length i.rest ≤ n → Under n (perform (part_by t d owed y) i)
-  part_under n owed k.Dot i less = paid_under n (within (added owed (d + 1) i.meter)) i.rest _ (λ m. name_under n t (assigned t d) (next (metered m i)) (omega (arith, less, tail_less i.rest)))
+  part_under n owed k.Dot i less = paid_under n (within (added owed (d + 1) i.meter)) i.rest _ (λ m. name_under n t.names (assigned t d) (next (metered m i)) (omega (arith, less, tail_less i.rest)))
   part_under n owed _ i less = then_under n (read (an_initializer t d owed) i) _ (read_leaves n (an_initializer t d owed) i less) (λ x us m p. under_behind n (None, x) (at us m) p)
 
   pub parts_shorter : (owed : ℕ) (i j : Input) (x : OnePart) → perform (one_part t d owed) i ≡ got x j.rest j.meter → length j.rest < length i.rest

@@ -23,7 +23,7 @@ next_by p _ = done (p, None)
 -- behind it
 abbrev pub behind_part_by : Types → Option Name × Initializer → Kind → Reads OnePart
 behind_part_by t p k.CloseBrace = skip (done (p, Some false))
-behind_part_by t p k.Comma = skip (look t (next_by p))
+behind_part_by t p k.Comma = skip (look t.names (next_by p))
 behind_part_by t p _ = stop
 
 -- behind the name of a member

@@ -12,9 +12,9 @@ ghost use Rattle.initializer_parser.specs.PartList.{braced};
 use crate::part::{Nest, parts};
 use c_grammar::{Cursor, Kind};
 use c_tree::{Init, InitList};
+use expression_parser::grammar::Types;
 use expression_parser::refusal::Refusal;
 use expression_parser::steps::{kind, spend};
-use program_scope::Types;
 use std::alloc::Global;
 use type_parser::nest::expression;
 
@@ -23,7 +23,7 @@ const MAX_NESTING: usize = 10_000;
 
 /// An initialiser in braces.
 #[tactic(auto, using(c_tree::proofs::StatementViewLemmas::view_Init_Parts, c_tree::proofs::StatementViewLemmas::view_InitList))]
-fn braced<F: Fn(Global, &Types, &mut Cursor<'_>, usize, u32, u32) -> Result<Init, Refusal>>(
+fn braced<F: Fn(Global, &Types<'_>, &mut Cursor<'_>, usize, u32, u32) -> Result<Init, Refusal>>(
     nest: &Nest<'_, F>,
     cursor: &mut Cursor<'_>,
     d: u32,
@@ -43,7 +43,7 @@ fn braced<F: Fn(Global, &Types, &mut Cursor<'_>, usize, u32, u32) -> Result<Init
 /// An initialiser: a list in braces, or an expression.
 #[tactic(auto, using(expression_parser::proofs::Opens::initializer_performs, c_tree::proofs::StatementViewLemmas::view_Init_Expr))]
 fn single_or_braced<
-    F: Fn(Global, &Types, &mut Cursor<'_>, usize, u32, u32) -> Result<Init, Refusal>,
+    F: Fn(Global, &Types<'_>, &mut Cursor<'_>, usize, u32, u32) -> Result<Init, Refusal>,
 >(nest: &Nest<'_, F>, cursor: &mut Cursor<'_>, d: u32, owed: u32) -> Result<Init, Refusal>
     requires nests { Nests nest.now.budget (F.pre nest.now.read) (F.post nest.now.read) }
     requires small { d ≤ 1001 }
@@ -62,7 +62,7 @@ fn single_or_braced<
 /// Reads an initialiser. Where it nests too often, there is no memory for it.
 fn nested(
     alloc: Global,
-    types: &Types,
+    types: &Types<'_>,
     cursor: &mut Cursor<'_>,
     budget: usize,
     d: u32,
@@ -77,7 +77,7 @@ fn nested(
     }
     let nest = Nest {
         alloc,
-        types,
+        types: &*types,
         budget: budget - 1,
         read: nested,
     };
@@ -87,7 +87,7 @@ fn nested(
 /// An initialiser, whose first token makes so many nodes necessary besides its own.
 pub fn initializer(
     alloc: Global,
-    types: &Types,
+    types: &Types<'_>,
     cursor: &mut Cursor<'_>,
     d: u32,
     owed: u32,

@@ -14,9 +14,9 @@ ghost use Rattle.initializer_parser.specs.PartList.{behind_part_by, assigned, na
 use base_core::Lexeme;
 use c_grammar::{Cursor, Kind};
 use c_tree::{Init, Part};
+use expression_parser::grammar::Types;
 use expression_parser::refusal::Refusal;
 use expression_parser::steps::{expect, kind, name, refused, spend};
-use program_scope::Types;
 use sqlite_items::Items;
 use std::alloc::Global;
 
@@ -25,14 +25,14 @@ use std::alloc::Global;
 pub struct Nest<'a, F> {
     pub alloc: Global,
     /// The names that are types.
-    pub types: &'a Types,
+    pub types: &'a Types<'a>,
     /// How often initialisers may still nest.
     pub budget: usize,
     pub read: F,
 }
 
 /// An initialiser in another, whose first token makes so many nodes necessary besides its own.
-fn inner<F: Fn(Global, &Types, &mut Cursor<'_>, usize, u32, u32) -> Result<Init, Refusal>>(
+fn inner<F: Fn(Global, &Types<'_>, &mut Cursor<'_>, usize, u32, u32) -> Result<Init, Refusal>>(
     nest: &Nest<'_, F>,
     cursor: &mut Cursor<'_>,
     d: u32,
@@ -50,7 +50,7 @@ fn inner<F: Fn(Global, &Types, &mut Cursor<'_>, usize, u32, u32) -> Result<Init,
 /// another part begins.
 #[tactic(auto, using(c_tree::proofs::StatementViewLemmas::view_Part))]
 fn behind_part(
-    types: &Types,
+    types: &Types<'_>,
     cursor: &mut Cursor<'_>,
     name: Option<Lexeme>,
     init: Init,
@@ -78,7 +78,7 @@ fn behind_part(
 }
 
 /// A part for a named member, behind its name.
-fn assigned<F: Fn(Global, &Types, &mut Cursor<'_>, usize, u32, u32) -> Result<Init, Refusal>>(
+fn assigned<F: Fn(Global, &Types<'_>, &mut Cursor<'_>, usize, u32, u32) -> Result<Init, Refusal>>(
     nest: &Nest<'_, F>,
     cursor: &mut Cursor<'_>,
     d: u32,
@@ -94,7 +94,7 @@ fn assigned<F: Fn(Global, &Types, &mut Cursor<'_>, usize, u32, u32) -> Result<In
 }
 
 /// A part for a named member, from its dot on.
-fn named_part<F: Fn(Global, &Types, &mut Cursor<'_>, usize, u32, u32) -> Result<Init, Refusal>>(
+fn named_part<F: Fn(Global, &Types<'_>, &mut Cursor<'_>, usize, u32, u32) -> Result<Init, Refusal>>(
     nest: &Nest<'_, F>,
     cursor: &mut Cursor<'_>,
     d: u32,
@@ -111,7 +111,7 @@ fn named_part<F: Fn(Global, &Types, &mut Cursor<'_>, usize, u32, u32) -> Result<
 }
 
 /// One part, and where it is the last whether a comma stands behind it.
-fn part<F: Fn(Global, &Types, &mut Cursor<'_>, usize, u32, u32) -> Result<Init, Refusal>>(
+fn part<F: Fn(Global, &Types<'_>, &mut Cursor<'_>, usize, u32, u32) -> Result<Init, Refusal>>(
     nest: &Nest<'_, F>,
     cursor: &mut Cursor<'_>,
     d: u32,
@@ -133,7 +133,7 @@ fn part<F: Fn(Global, &Types, &mut Cursor<'_>, usize, u32, u32) -> Result<Init, 
 
 /// The parts of a list, with the closing brace, and whether a comma stands before it. What stands in the place of the first
 /// part was counted with the brace before it; the first token of each later part makes its initialiser necessary.
-pub fn parts<F: Fn(Global, &Types, &mut Cursor<'_>, usize, u32, u32) -> Result<Init, Refusal>>(
+pub fn parts<F: Fn(Global, &Types<'_>, &mut Cursor<'_>, usize, u32, u32) -> Result<Init, Refusal>>(
     nest: &Nest<'_, F>,
     cursor: &mut Cursor<'_>,
     d: u32,

@@ -1,9 +1,9 @@
 -- Items by the tokens that choose between their forms.
-use Rattle.std.proofs.Common.{◌≡◌, ◌≢◌, ℕ, ◌+◌, Bool, true, false, if◌then◌else◌, List, Some, [], refl, sym, ap, ◌∙◌}
+use Rattle.std.proofs.Common.{◌≡◌, ◌≢◌, ℕ, ◌+◌, Bool, true, false, if◌then◌else◌, Some, [], refl, sym, ap, ◌∙◌}
 use Rattle.c_tree.specs.declared.tree.Storage.{Storage}
 use Rattle.c_tree.specs.declared.tree.Storage.TheVariants as st
 use Rattle.c_tree.specs.Shape.{Scope}
-use Rattle.c_tree.specs.Tree.{Name, Specifiers, DeclaratorTree, NamedTree, ItemTree}
+use Rattle.c_tree.specs.Tree.{Specifiers, DeclaratorTree, NamedTree, ItemTree}
 use Rattle.c_grammar.specs.declared.kind.Kind.{Kind}
 use Rattle.c_grammar.specs.declared.kind.Kind.TheVariants as k
 use Rattle.c_grammar.specs.Kind.{kind}
@@ -13,11 +13,11 @@ use Rattle.c_grammar.specs.Gauge.{Meter}
 use Rattle.c_grammar.specs.Input.{Input, metered}
 use Rattle.c_grammar.specs.Performing.{perform, at}
 use Rattle.c_grammar.specs.Reading.{read}
-use Rattle.c_grammar.specs.Rules.{Types, Reads, skip, all_specifiers, an_item, begins_type, item_specifiers, item_start_by, a_declarator, an_outer, taken_names, an_initializer, has_initializer, named_init_by, with_names, item_by, item_names_by}
+use Rattle.c_grammar.specs.Rules.{Types, Reads, skip, all_specifiers, an_item, begins_type, item_specifiers, item_start_by, only_types, outer_types, is_typedef, a_declarator, an_outer, an_initializer, has_initializer, named_init_by, with_names, item_by}
 use Rattle.expression_parser.specs.Stepping.{Spent}
 use Rattle.expression_parser.proofs.Joining.{same_mapped, Joins, join_spend, join_skip, join_call}
 use Rattle.expression_parser.proofs.Opens.{outer_performs, item_performs}
-use Rattle.item_parser.specs.ItemParts.{behind_declarator, declared}
+use Rattle.item_parser.specs.ItemParts.{behind_declarator, behind_specifiers, declared}
 
 module _ (c : Storage) (ws : Specifiers) (s : Scope) where
   -- the other names, behind the first
@@ -25,40 +25,39 @@ module _ (c : Storage) (ws : Specifiers) (s : Scope) where
   others n us m = perform (with_names c ws s n) (at us m)
 
   started : (x : DeclaratorTree) (b : Bool) (i : Input) →
-      perform (if b then spend 1 4 (skip (body.call (an_initializer s.types 3 0) (λ v. with_names c ws s (record { declarator = x; init = Some v })))) else stop) i
-      ≡ and_then (perform (if b then spend 1 (3 + 1) (skip (body.call (an_initializer s.types 3 0) (λ v. done (record { declarator = x; init = Some v })))) else stop) i) others
+      perform (if b then spend 1 4 (skip (body.call (an_initializer (only_types s.types) 3 0) (λ v. with_names c ws s (record { declarator = x; init = Some v })))) else stop) i
+      ≡ and_then (perform (if b then spend 1 (3 + 1) (skip (body.call (an_initializer (only_types s.types) 3 0) (λ v. done (record { declarator = x; init = Some v })))) else stop) i) others
   started x true i =
-      let h : Joins (λ y. y) others (spend 1 4 (skip (body.call (an_initializer s.types 3 0) (λ v. with_names c ws s (record { declarator = x; init = Some v })))))
-      (spend 1 4 (skip (body.call (an_initializer s.types 3 0) (λ v. done (record { declarator = x; init = Some v }))))) i =
+      let h : Joins (λ y. y) others (spend 1 4 (skip (body.call (an_initializer (only_types s.types) 3 0) (λ v. with_names c ws s (record { declarator = x; init = Some v })))))
+      (spend 1 4 (skip (body.call (an_initializer (only_types s.types) 3 0) (λ v. done (record { declarator = x; init = Some v }))))) i =
       join_spend (λ m. join_skip (join_call (λ v us p. record { is = refl }))) in
       h.is ∙ ap (λ o. and_then o others) (same_mapped _)
   started x false i = refl
 
   -- a declaration goes on behind its first declarator
   declared_on : (x : DeclaratorTree) (e : Kind) (i : Input) → e ≢ k.OpenBrace →
-      perform (item_by c ws s x e) i ≡ and_then (perform (named_init_by s.types 3 (has_initializer x) x e) i) (λ n us m. perform (with_names c ws s n) (at us m))
+      perform (item_by c ws s x e) i ≡ and_then (perform (named_init_by (only_types s.types) 3 (has_initializer x) x e) i) (λ n us m. perform (with_names c ws s n) (at us m))
   declared_on x k.OpenBrace i other = absurd (other refl)
   declared_on x k.Assign i other = started x (has_initializer x) i
   declared_on x _ i other = refl
 
   pub declared_by : (x : DeclaratorTree) (e : Kind) (i : Input) → e ≡ kind [] i.rest → e ≢ k.OpenBrace → perform (look [] (item_by c ws s x)) i ≡ declared c ws s x i
   declared_by x e i is other =
-      ap (λ z. perform (item_by c ws s x z) i) (sym is) ∙ declared_on x e i other ∙ ap (λ z. and_then (perform (named_init_by s.types 3 (has_initializer x) x z) i) others) is
+      ap (λ z. perform (item_by c ws s x z) i) (sym is) ∙ declared_on x e i other ∙ ap (λ z. and_then (perform (named_init_by (only_types s.types) 3 (has_initializer x) x z) i) others) is
 
 -- a declared name, behind its declarator
-pub outer_on : (c : Storage) (s : Scope) (t u : Types) (ns : List Name) (x : DeclaratorTree) (i j : Input) → t ≡ s.types → u ≡ s.types → ns ≡ taken_names c s →
-    read (a_declarator t 3 true ns) i ≡ got x j.rest j.meter → read (an_outer c s) i ≡ perform (behind_declarator u c x) j
-outer_on c s t u ns x i j is same taken e =
+pub outer_on : (c : Storage) (s : Scope) (t : Types) (x : DeclaratorTree) (i j : Input) → t ≡ outer_types c s → read (a_declarator t 3 true (is_typedef c)) i ≡ got x j.rest j.meter →
+    read (an_outer c s) i ≡ perform (behind_declarator t c x) j
+outer_on c s t x i j is e =
     outer_performs c s i
-    ∙ ap (λ o. and_then o (λ x us m. perform (behind_declarator s.types c x) (at us m)))
-    (ap (λ z. read (a_declarator z 3 true (taken_names c s)) i) (sym is) ∙ ap (λ z. read (a_declarator t 3 true z) i) (sym taken) ∙ e)
-    ∙ ap (λ z. perform (behind_declarator z c x) j) (sym same)
+    ∙ ap (λ o. and_then o (λ x us m. perform (behind_declarator (outer_types c s) c x) (at us m))) (ap (λ z. read (a_declarator z 3 true (is_typedef c)) i) (sym is) ∙ e)
+    ∙ ap (λ z. perform (behind_declarator z c x) j) (sym is)
 
 -- an item, behind its specifiers
-pub specified_on : (c : Storage) (s : Scope) (t : Types) (ws : Specifiers) (i j : Input) → t ≡ s.types → read (all_specifiers t 2 []) i ≡ got ws j.rest j.meter →
-    perform (item_specifiers c s) i ≡ perform (look s.types (item_names_by c ws s)) j
+pub specified_on : (c : Storage) (s : Scope) (t : Types) (ws : Specifiers) (i j : Input) → t ≡ only_types s.types → read (all_specifiers t 2 true []) i ≡ got ws j.rest j.meter →
+    perform (item_specifiers c s) i ≡ perform (behind_specifiers c ws s) j
 specified_on c s t ws i j is e =
-    ap (λ o. and_then o (λ ws us m. perform (item_names_by c ws s (kind s.types us)) (at us m))) (ap (λ z. read (all_specifiers z 2 []) i) (sym is) ∙ e)
+    ap (λ o. and_then o (λ ws us m. perform (behind_specifiers c ws s) (at us m))) (ap (λ z. read (all_specifiers z 2 true []) i) (sym is) ∙ e)
 
 spent_on : {A : Type 0} (n d : ℕ) (b : Reads A) (i j : Input) → Spent n d i j → perform (spend n d b) i ≡ perform b j
 spent_on n d b i j h = ap (λ o. and_paid o i.rest (λ m. perform b (metered m i))) h.paid ∙ ap (λ r. perform b (at r j.meter)) (sym h.same)
@@ -70,10 +69,10 @@ typed_on s k.Typedef a b c = absurd (c refl)
 typed_on s _ a b c = refl
 
 -- an item without a word of storage
-pub item_on : (s : Scope) (t : Types) (e : Kind) (i j : Input) → t ≡ s.types → e ≡ kind t i.rest → e ≢ k.Static → e ≢ k.Extern → e ≢ k.Typedef → begins_type e ≡ true → Spent 1 2 i j →
+pub item_on : (s : Scope) (e : Kind) (i j : Input) → e ≡ kind s.types i.rest → e ≢ k.Static → e ≢ k.Extern → e ≢ k.Typedef → begins_type e ≡ true → Spent 1 2 i j →
     read (an_item s) i ≡ perform (item_specifiers st.Nothing s) j
-item_on s t e i j same is a b c begins h =
+item_on s e i j is a b c begins h =
     item_performs s i
-    ∙ ap (λ z. perform (item_start_by s z) i) (ap (λ z. kind z i.rest) (sym same) ∙ sym is)
+    ∙ ap (λ z. perform (item_start_by s z) i) (sym is)
     ∙ ap (λ z. perform z i) (typed_on s e a b c ∙ ap (λ z. if z then spend 1 2 (item_specifiers st.Nothing s) else stop) begins)
     ∙ spent_on 1 2 (item_specifiers st.Nothing s) i j h

@@ -1,3 +1,4 @@
+pub mod FirstCases
 pub mod ItemCases
 pub mod ItemLoop
 pub mod OuterNames

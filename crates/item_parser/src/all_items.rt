@@ -3,6 +3,7 @@
 ghost use Rattle.std.specs.Prelude.{◌≡◌, ◌<◌, map, length, IfOk};
 ghost use Rattle.c_tree.specs.Shape.{first_scope, behind_item};
 ghost use Rattle.c_tree.specs.StatementView.{view_item};
+ghost use Rattle.c_grammar.specs.Kind as grammar;
 ghost use Rattle.c_grammar.specs.Performing.{perform};
 ghost use Rattle.c_grammar.specs.Reading.{read};
 ghost use Rattle.c_grammar.specs.Rules.{all_items, an_item, item_specifiers};
@@ -10,15 +11,24 @@ ghost use Rattle.expression_parser.specs.Gives.{Gives};
 ghost use Rattle.item_parser.specs.ItemParts.{one_item, stored};
 
 use crate::first::{behind_specifiers, kept};
+use crate::outer::inner_types;
 use c_grammar::{Cursor, Kind, same_kind};
 use c_tree::{Item, Storage};
 use expression_parser::infix::begins_type;
 use expression_parser::refusal::Refusal;
 use expression_parser::steps::{kind, refused, spend};
-use program_scope::Scope;
+use program_scope::{Names, Scope};
 use sqlite_items::Items;
 use std::alloc::Global;
 use type_parser::nest::specifiers;
+
+/// The kind of the next token, outside functions.
+fn kind_outside(alloc: Global, scope: &Scope, cursor: &Cursor<'_>) -> Kind
+    ensures { result ≡ grammar.kind scope.now.types cursor.now.rest }
+{
+    let none = Names::new(alloc);
+    kind(&inner_types(scope, &none), cursor)
+}
 
 /// An item, from its specifiers on.
 fn specified(
@@ -30,7 +40,9 @@ fn specified(
     ensures reads { Gives view_item (perform (item_specifiers storage scope.old) cursor.old) result cursor.new }
     ensures behind { IfOk result (λ x. scope.new ≡ behind_item (view_item x) scope.old) }
 {
-    let specs = specifiers(alloc, scope.types(), cursor, 2)?;
+    let none = Names::new(alloc);
+    let types = inner_types(scope, &none);
+    let specs = specifiers(alloc, &types, cursor, 2, true)?;
     behind_specifiers(alloc, scope, cursor, storage, specs)
 }
 
@@ -55,7 +67,7 @@ fn item(alloc: Global, scope: &mut Scope, cursor: &mut Cursor<'_>) -> Result<Ite
     ensures reads { Gives view_item (read (an_item scope.old) cursor.old) result cursor.new }
     ensures behind { IfOk result (λ x. scope.new ≡ behind_item (view_item x) scope.old) }
 {
-    match kind(scope.types(), cursor) {
+    match kind_outside(alloc, scope, cursor) {
         Kind::Static => stored(alloc, scope, cursor, Storage::Static),
         Kind::Extern => stored(alloc, scope, cursor, Storage::Extern),
         Kind::Typedef => stored(alloc, scope, cursor, Storage::Typedef),

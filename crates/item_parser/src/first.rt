@@ -1,7 +1,9 @@
 //! Items, behind their specifiers.
 
 ghost use Rattle.std.specs.Prelude.{◌≡◌, [], map, IfOk, Ok, Err, if◌then◌else◌};
-ghost use Rattle.c_tree.specs.Shape.{behind_specifiers, behind_item};
+ghost use Rattle.c_tree.specs.declared.tree.Storage.TheVariants as st;
+ghost use Rattle.c_tree.specs.Shape as shape;
+ghost use Rattle.c_tree.specs.Shape.{IsNoTypedef, behind_specifiers, behind_item};
 ghost use Rattle.c_tree.specs.View.{view_specifier, view_declarator, specifiers_of};
 ghost use Rattle.c_tree.specs.StatementView.{view_item, view_statement, statements_of};
 ghost use Rattle.c_grammar.specs.Body.{look};
@@ -11,17 +13,20 @@ ghost use Rattle.c_grammar.specs.Rules as rules;
 ghost use Rattle.expression_parser.specs.Gives.{Gives};
 ghost use Rattle.item_parser.specs.ItemParts as spec;
 
-use crate::outer::{names, outer};
+use crate::outer::{inner_types, names, outer};
+use base_core::Lexeme;
 use c_grammar::{Cursor, Kind};
-use c_tree::{Decl, Declarator, Function, Item, Named, Specs, Stmt, Storage};
+use c_tree::{Decl, Declarator, Function, Item, Named, Specs, Stars, Stmt, Storage};
 use declaration_parser::{begins_declarator, has_initializer, has_tag, named_init};
+use expression_parser::grammar::Types;
 use expression_parser::refusal::Refusal;
-use expression_parser::steps::{kind, refused, rise, spend};
-use program_scope::{Scope, Types};
+use expression_parser::steps::{new_kind, refused, rise, spend, word};
+use program_scope::{Names, Scope};
 use sqlite_items::Items;
 use statement_parser::body;
 use std::alloc::{AllocError, Global};
-use type_parser::nest::declarator;
+use type_parser::nest::{parameters, pointer, sizes};
+use type_parser::pointer::stars;
 
 /// Whether a declarator is of a function.
 #[tactic(auto, using(c_tree::proofs::ViewLemmas::view_Declarator_Plain, c_tree::proofs::ViewLemmas::view_Declarator_Array, c_tree::proofs::ViewLemmas::view_Declarator_Function, c_tree::proofs::ViewLemmas::view_Declarator_Pointer))]
@@ -36,7 +41,19 @@ fn is_function(d: &Declarator) -> bool
     }
 }
 
-/// Behind the first declarator: the body of a function, or a declaration goes on.
+/// Whether a declaration goes on with a token of this kind behind its first declarator.
+fn follows_first(d: &Declarator, kind: Kind) -> bool
+    ensures { result ≡ rules.follows_first (view_declarator d.now) kind }
+{
+    match kind {
+        Kind::Assign => has_initializer(d),
+        Kind::Comma => true,
+        Kind::Semicolon => true,
+        _ => false,
+    }
+}
+
+/// Behind the first declarator, which may be of a function: its body, or a declaration goes on.
 fn behind_first(cursor: &mut Cursor<'_>, found: Declarator) -> Result<Declarator, Refusal>
     ensures { Gives view_declarator (perform (look [] (rules.first_by (view_declarator found))) cursor.old) result cursor.new }
 {
@@ -48,21 +65,61 @@ fn behind_first(cursor: &mut Cursor<'_>, found: Declarator) -> Result<Declarator
                 Err(refused(cursor))
             }
         }
-        _ => {
-            rise(cursor)?;
-            Ok(found)
+        other => {
+            if follows_first(&found, other) {
+                rise(cursor)?;
+                Ok(found)
+            } else {
+                Err(refused(cursor))
+            }
         }
+    }
+}
+
+/// The first declarator of an item, behind its stars and its name. An array is no function.
+#[tactic(auto, using(c_tree::proofs::ViewLemmas::view_Declarator_Plain, c_tree::proofs::ViewLemmas::view_Declarator_Array, c_tree::proofs::ViewLemmas::view_Declarator_Function))]
+fn first_declared(
+    alloc: Global,
+    types: &Types<'_>,
+    cursor: &mut Cursor<'_>,
+    stars: Stars,
+    name: Lexeme,
+) -> Result<Declarator, Refusal>
+    ensures { Gives view_declarator (perform (look [] (rules.first_declared_by types.now stars name)) cursor.old) result cursor.new }
+{
+    match cursor.kind() {
+        Kind::OpenBracket => {
+            rise(cursor)?;
+            let sizes = sizes(alloc, types, cursor, 3)?;
+            Ok(Declarator::Array(stars, name, sizes))
+        }
+        Kind::OpenParen => {
+            cursor.take();
+            let params = parameters(alloc, types, cursor, 2)?;
+            behind_first(cursor, Declarator::Function(stars, name, params))
+        }
+        _ => behind_first(cursor, Declarator::Plain(stars, name)),
     }
 }
 
 /// The declarator of a function or of the first name of a declaration.
 #[tactic(auto, using(expression_parser::proofs::Opens::first_performs))]
-fn first(alloc: Global, types: &Types, cursor: &mut Cursor<'_>) -> Result<Declarator, Refusal>
+fn first(alloc: Global, types: &Types<'_>, cursor: &mut Cursor<'_>) -> Result<Declarator, Refusal>
     ensures { Gives view_declarator (read (rules.a_first types.now) cursor.old) result cursor.new }
 {
-    let none = Types::new(alloc);
-    let found = declarator(alloc, types, cursor, 2, true, &none)?;
-    behind_first(cursor, found)
+    let stars = stars(alloc, cursor)?;
+    match new_kind(types, cursor) {
+        Kind::Name => {
+            let name = word(alloc, cursor)?;
+            first_declared(alloc, types, cursor, stars, name)
+        }
+        Kind::OpenParen => {
+            rise(cursor)?;
+            cursor.take();
+            pointer(alloc, types, cursor, 3, stars)
+        }
+        _ => Err(refused(cursor)),
+    }
 }
 
 /// A declaration of one name alone.
@@ -127,7 +184,7 @@ fn function_of(
 /// A function, behind its declarator.
 fn function(
     alloc: Global,
-    types: &Types,
+    types: &Types<'_>,
     cursor: &mut Cursor<'_>,
     storage: Storage,
     specs: Specs,
@@ -156,10 +213,12 @@ fn function_item(
     specs: Specs,
     declarator: Declarator,
 ) -> Result<Item, Refusal>
-    ensures reads { Gives view_item (perform (spec.function_by scope.old.types storage (specifiers_of (map view_specifier specs)) (view_declarator declarator)) cursor.old) result cursor.new }
+    ensures reads { Gives view_item (perform (spec.function_by (rules.only_types scope.old.types) storage (specifiers_of (map view_specifier specs)) (view_declarator declarator)) cursor.old) result cursor.new }
     ensures behind { IfOk result (λ x. scope.new ≡ behind_item (view_item x) scope.old) }
 {
-    let found = function(alloc, scope.types(), cursor, storage, specs, declarator)?;
+    let none = Names::new(alloc);
+    let types = inner_types(scope, &none);
+    let found = function(alloc, &types, cursor, storage, specs, declarator)?;
     let may = scope.behind_item(&found).is_ok();
     kept(found, may, Refusal::NoMemory)
 }
@@ -178,7 +237,9 @@ fn declaration(
 {
     scope.behind_specifiers(specs.as_slice())?;
     let may_begin = has_initializer(&declarator);
-    let first = named_init(alloc, scope.types(), cursor, 3, may_begin, declarator)?;
+    let none = Names::new(alloc);
+    let types = inner_types(scope, &none);
+    let first = named_init(alloc, &types, cursor, 3, may_begin, declarator)?;
     let names = names(alloc, scope, cursor, storage, first)?;
     Ok(Item::Decl(Decl {
         storage,
@@ -200,12 +261,18 @@ fn behind_declarator(
     ensures behind { IfOk result (λ x. scope.new ≡ behind_item (view_item x) scope.old) }
 {
     match cursor.kind() {
-        Kind::OpenBrace => function_item(alloc, scope, cursor, storage, specs, declarator),
+        Kind::OpenBrace => {
+            if is_function(&declarator) {
+                function_item(alloc, scope, cursor, storage, specs, declarator)
+            } else {
+                Err(refused(cursor))
+            }
+        }
         _ => declaration(alloc, scope, cursor, storage, specs, declarator),
     }
 }
 
-/// An item that is no typedef, behind its specifiers.
+/// An item that is no typedef and has names, behind its specifiers.
 fn named(
     alloc: Global,
     scope: &mut Scope,
@@ -213,17 +280,41 @@ fn named(
     storage: Storage,
     specs: Specs,
 ) -> Result<Item, Refusal>
-    ensures reads { Gives view_item (perform (spec.named storage (specifiers_of (map view_specifier specs)) scope.old) cursor.old) result cursor.new }
+    ensures reads { Gives view_item (perform (spec.named storage (specifiers_of (map view_specifier specs)) (behind_specifiers (specifiers_of (map view_specifier specs)) scope.old)) cursor.old) result cursor.new }
     ensures behind { IfOk result (λ x. scope.new ≡ behind_item (view_item x) scope.old) }
 {
-    spend(cursor, 1, 3)?;
+    if has_tag(specs.as_slice()) {
+        spend(cursor, 1, 3)?;
+    }
     let outer = cursor.enter(2);
-    let found = first(alloc, scope.types(), cursor)?;
+    let none = Names::new(alloc);
+    let types = inner_types(scope, &none);
+    let found = first(alloc, &types, cursor)?;
     cursor.leave(outer);
     behind_declarator(alloc, scope, cursor, storage, specs, found)
 }
 
-/// A typedef, behind its specifiers. Each name is a type from the end of its declarator on.
+/// A declaration without names, at its semicolon.
+fn no_names(
+    alloc: Global,
+    cursor: &mut Cursor<'_>,
+    storage: Storage,
+    specs: Specs,
+) -> Result<Item, Refusal>
+    ensures { Gives view_item (perform (spec.no_names storage (specifiers_of (map view_specifier specs))) cursor.old) result cursor.new }
+{
+    if !has_tag(specs.as_slice()) {
+        return Err(refused(cursor));
+    }
+    cursor.take();
+    Ok(Item::Decl(Decl {
+        storage,
+        specs,
+        names: Items::new(alloc),
+    }))
+}
+
+/// The names of a typedef, in the scope behind its specifiers. Each is a type from the end of its declarator on.
 fn type_names(
     alloc: Global,
     scope: &mut Scope,
@@ -231,10 +322,8 @@ fn type_names(
     specs: Specs,
 ) -> Result<Item, Refusal>
     ensures reads { Gives view_item (perform (spec.type_names (specifiers_of (map view_specifier specs)) scope.old) cursor.old) result cursor.new }
-    ensures behind { IfOk result (λ x. scope.new ≡ behind_item (view_item x) scope.old) }
+    ensures behind { IfOk result (λ x. (s : shape.Scope) → scope.old ≡ behind_specifiers (specifiers_of (map view_specifier specs)) s → scope.new ≡ behind_item (view_item x) s) }
 {
-    spend(cursor, 1, 3)?;
-    scope.behind_specifiers(specs.as_slice())?;
     let first = outer(alloc, scope, cursor, Storage::Typedef)?;
     let names = names(alloc, scope, cursor, Storage::Typedef, first)?;
     Ok(Item::Decl(Decl {
@@ -244,27 +333,49 @@ fn type_names(
     }))
 }
 
-/// An item with names, behind its specifiers.
-fn some_names(
+/// The same where the first name is still to be counted.
+fn counted_type_names(
     alloc: Global,
     scope: &mut Scope,
     cursor: &mut Cursor<'_>,
-    storage: Storage,
     specs: Specs,
 ) -> Result<Item, Refusal>
-    ensures reads { Gives view_item (perform (spec.some_names storage (specifiers_of (map view_specifier specs)) scope.old) cursor.old) result cursor.new }
+    ensures reads { Gives view_item (perform (spec.counted_type_names (specifiers_of (map view_specifier specs)) scope.old) cursor.old) result cursor.new }
+    ensures behind { IfOk result (λ x. (s : shape.Scope) → scope.old ≡ behind_specifiers (specifiers_of (map view_specifier specs)) s → scope.new ≡ behind_item (view_item x) s) }
+{
+    spend(cursor, 1, 3)?;
+    type_names(alloc, scope, cursor, specs)
+}
+
+/// A typedef, behind its specifiers.
+fn type_item(
+    alloc: Global,
+    scope: &mut Scope,
+    cursor: &mut Cursor<'_>,
+    specs: Specs,
+) -> Result<Item, Refusal>
+    ensures reads { Gives view_item (perform (spec.behind_specifiers st.Typedef (specifiers_of (map view_specifier specs)) scope.old) cursor.old) result cursor.new }
     ensures behind { IfOk result (λ x. scope.new ≡ behind_item (view_item x) scope.old) }
 {
-    match storage {
-        Storage::Typedef => type_names(alloc, scope, cursor, specs),
-        Storage::Nothing => named(alloc, scope, cursor, Storage::Nothing, specs),
-        Storage::Static => named(alloc, scope, cursor, Storage::Static, specs),
-        Storage::Extern => named(alloc, scope, cursor, Storage::Extern, specs),
+    scope.behind_specifiers(specs.as_slice())?;
+    let types = Types::new(scope.types(), scope.others());
+    match new_kind(&types, cursor) {
+        Kind::Semicolon => no_names(alloc, cursor, Storage::Typedef, specs),
+        other => {
+            if !begins_declarator(other) {
+                return Err(refused(cursor));
+            }
+            if has_tag(specs.as_slice()) {
+                counted_type_names(alloc, scope, cursor, specs)
+            } else {
+                type_names(alloc, scope, cursor, specs)
+            }
+        }
     }
 }
 
-/// A declaration without names, at its semicolon.
-fn no_names(
+/// An item without names and no typedef, at its semicolon. The scope is then the one behind it.
+fn unnamed(
     alloc: Global,
     scope: &mut Scope,
     cursor: &mut Cursor<'_>,
@@ -274,16 +385,33 @@ fn no_names(
     ensures reads { Gives view_item (perform (spec.no_names storage (specifiers_of (map view_specifier specs))) cursor.old) result cursor.new }
     ensures behind { IfOk result (λ x. scope.new ≡ behind_item (view_item x) scope.old) }
 {
-    if !has_tag(specs.as_slice()) {
-        return Err(refused(cursor));
-    }
-    cursor.take();
     scope.behind_specifiers(specs.as_slice())?;
-    Ok(Item::Decl(Decl {
-        storage,
-        specs,
-        names: Items::new(alloc),
-    }))
+    no_names(alloc, cursor, storage, specs)
+}
+
+/// An item that is no typedef, behind its specifiers.
+fn other_item(
+    alloc: Global,
+    scope: &mut Scope,
+    cursor: &mut Cursor<'_>,
+    storage: Storage,
+    specs: Specs,
+) -> Result<Item, Refusal>
+    requires { IsNoTypedef storage }
+    ensures reads { Gives view_item (perform (spec.behind_specifiers storage (specifiers_of (map view_specifier specs)) scope.old) cursor.old) result cursor.new }
+    ensures behind { IfOk result (λ x. scope.new ≡ behind_item (view_item x) scope.old) }
+{
+    let none = Names::new(alloc);
+    let types = inner_types(scope, &none);
+    match new_kind(&types, cursor) {
+        Kind::Semicolon => unnamed(alloc, scope, cursor, storage, specs),
+        other => {
+            if !begins_declarator(other) {
+                return Err(refused(cursor));
+            }
+            named(alloc, scope, cursor, storage, specs)
+        }
+    }
 }
 
 /// An item, behind its specifiers.
@@ -294,16 +422,13 @@ pub(crate) fn behind_specifiers(
     storage: Storage,
     specs: Specs,
 ) -> Result<Item, Refusal>
-    ensures reads { Gives view_item (perform (look scope.old.types (rules.item_names_by storage (specifiers_of (map view_specifier specs)) scope.old)) cursor.old) result cursor.new }
+    ensures reads { Gives view_item (perform (spec.behind_specifiers storage (specifiers_of (map view_specifier specs)) scope.old) cursor.old) result cursor.new }
     ensures behind { IfOk result (λ x. scope.new ≡ behind_item (view_item x) scope.old) }
 {
-    match kind(scope.types(), cursor) {
-        Kind::Semicolon => no_names(alloc, scope, cursor, storage, specs),
-        other => {
-            if !begins_declarator(other) {
-                return Err(refused(cursor));
-            }
-            some_names(alloc, scope, cursor, storage, specs)
-        }
+    match storage {
+        Storage::Typedef => type_item(alloc, scope, cursor, specs),
+        Storage::Nothing => other_item(alloc, scope, cursor, Storage::Nothing, specs),
+        Storage::Static => other_item(alloc, scope, cursor, Storage::Static, specs),
+        Storage::Extern => other_item(alloc, scope, cursor, Storage::Extern, specs),
     }
 }

@@ -1,7 +1,6 @@
 //! Names that are declared outside functions.
 
-ghost use Rattle.std.specs.Prelude.{◌≡◌, ◌∷◌, [], map, IfOk};
-ghost use Rattle.c_tree.specs.DeclaredNames.{declarator_name};
+ghost use Rattle.std.specs.Prelude.{◌≡◌, ◌∷◌, [], true, map, IfOk};
 ghost use Rattle.c_tree.specs.Shape.{behind_named, behind_names};
 ghost use Rattle.c_tree.specs.View.{view_declarator};
 ghost use Rattle.c_tree.specs.StatementView.{view_named};
@@ -13,56 +12,52 @@ ghost use Rattle.expression_parser.specs.Gives.{Gives};
 ghost use Rattle.expression_parser.specs.Lists.{mapped};
 ghost use Rattle.item_parser.specs.ItemParts as spec;
 
-use base_core::Lexeme;
 use c_grammar::{Cursor, Kind, same_kind};
 use c_tree::{Declarator, Named, Storage};
 use declaration_parser::{has_initializer, named_init};
+use expression_parser::grammar::Types;
 use expression_parser::refusal::Refusal;
-use expression_parser::steps::{expect, refused, spend};
-use program_scope::{Scope, Types, declare_inside};
+use expression_parser::steps::{expect, spend};
+use program_scope::{Names, Scope};
 use sqlite_items::Items;
-use std::alloc::{AllocError, Global};
-use type_parser::nest::declarator;
+use std::alloc::Global;
+use type_parser::nest::{declarator, type_declarator};
 
-/// The name that a declarator declares.
-#[tactic(auto, using(c_tree::proofs::ViewLemmas::view_Declarator_Plain, c_tree::proofs::ViewLemmas::view_Declarator_Array, c_tree::proofs::ViewLemmas::view_Declarator_Function, c_tree::proofs::ViewLemmas::view_Declarator_Pointer))]
-fn name_of(d: &Declarator) -> &Lexeme
-    ensures { result.now ≡ declarator_name (view_declarator d.now) }
-{
-    match d {
-        Declarator::Plain(_, name)
-        | Declarator::Array(_, name, _)
-        | Declarator::Function(_, name, _)
-        | Declarator::Pointer(_, _, name, _, _) => name,
-    }
-}
-
-/// The names that a declarator may not declare.
-fn taken<'a>(storage: Storage, scope: &'a Scope, none: &'a Types) -> &'a Types
+/// Where no type is declared: the names that are types.
+pub(crate) fn inner_types<'a>(scope: &'a Scope, none: &'a Names) -> Types<'a>
     requires { none.now ≡ [] }
-    ensures { result.now ≡ rules.taken_names storage scope.now }
+    ensures { result ≡ rules.only_types scope.now.types }
+{
+    Types::new(scope.types(), none)
+}
+
+/// Where names are declared outside functions: the name of a type is new.
+fn outer_types<'a>(storage: Storage, scope: &'a Scope, none: &'a Names) -> Types<'a>
+    requires { none.now ≡ [] }
+    ensures { result ≡ rules.outer_types storage scope.now }
 {
     match storage {
-        Storage::Typedef => scope.others(),
-        Storage::Nothing => none,
-        Storage::Static => none,
-        Storage::Extern => none,
+        Storage::Typedef => Types::new(scope.types(), scope.others()),
+        Storage::Nothing => inner_types(scope, none),
+        Storage::Static => inner_types(scope, none),
+        Storage::Extern => inner_types(scope, none),
     }
 }
 
-/// Whether a declarator's own sizes and parameters declare the name of a type.
-fn clashes(alloc: Global, storage: Storage, d: &Declarator) -> Result<bool, AllocError>
-    ensures { IfOk result (λ b. b ≡ rules.clashes storage (view_declarator d.now)) }
+/// The declarator of a name outside functions.
+fn outer_declarator(
+    alloc: Global,
+    types: &Types<'_>,
+    cursor: &mut Cursor<'_>,
+    storage: Storage,
+) -> Result<Declarator, Refusal>
+    ensures { Gives view_declarator (read (rules.a_declarator types.now 3 true (rules.is_typedef storage)) cursor.old) result cursor.new }
 {
     match storage {
-        Storage::Typedef => {
-            let mut inside = Types::new(alloc);
-            declare_inside(d, &mut inside)?;
-            Ok(inside.contains(name_of(d).as_bytes()))
-        }
-        Storage::Nothing => Ok(false),
-        Storage::Static => Ok(false),
-        Storage::Extern => Ok(false),
+        Storage::Typedef => type_declarator(alloc, types, cursor, 3),
+        Storage::Nothing => declarator(alloc, types, cursor, 3, true),
+        Storage::Static => declarator(alloc, types, cursor, 3, true),
+        Storage::Extern => declarator(alloc, types, cursor, 3, true),
     }
 }
 
@@ -81,16 +76,13 @@ fn may_begin(storage: Storage, d: &Declarator) -> bool
 /// A declared name behind its declarator.
 fn behind_declarator(
     alloc: Global,
-    types: &Types,
+    types: &Types<'_>,
     cursor: &mut Cursor<'_>,
     storage: Storage,
     found: Declarator,
 ) -> Result<Named, Refusal>
     ensures { Gives view_named (perform (spec.behind_declarator types.now storage (view_declarator found)) cursor.old) result cursor.new }
 {
-    if clashes(alloc, storage, &found)? {
-        return Err(refused(cursor));
-    }
     let may_begin = may_begin(storage, &found);
     named_init(alloc, types, cursor, 3, may_begin, found)
 }
@@ -105,10 +97,10 @@ pub(crate) fn outer(
 ) -> Result<Named, Refusal>
     ensures { Gives view_named (read (rules.an_outer storage scope.now) cursor.old) result cursor.new }
 {
-    let none = Types::new(alloc);
-    let taken = taken(storage, scope, &none);
-    let found = declarator(alloc, scope.types(), cursor, 3, true, taken)?;
-    behind_declarator(alloc, scope.types(), cursor, storage, found)
+    let none = Names::new(alloc);
+    let types = outer_types(storage, scope, &none);
+    let found = outer_declarator(alloc, &types, cursor, storage)?;
+    behind_declarator(alloc, &types, cursor, storage, found)
 }
 
 /// One more declared name, behind a comma.

@@ -1,25 +1,24 @@
 //! Walks over expressions and declarators: each adds the names that a tree declares.
 
-ghost use Rattle.std.specs.Prelude.{◌≡◌, ◌++◌, map, option_map, OnOk};
-ghost use Rattle.c_tree.specs.DeclaredNames.{declared_inside};
+ghost use Rattle.std.specs.Prelude.{◌≡◌, map, option_map, OnOk};
 ghost use Rattle.c_tree.specs.View.{view_expression, view_type, view_specifier, view_declarator, view_bare, view_member, view_enumerator, view_parameter, expressions_of, sizes_of, specifiers_of, members_of, declarators_of, enumerators_of, parameters_of};
 ghost use Rattle.program_scope.specs.With.{with_name, with_expression, with_expressions, with_sizes, with_type, with_specifiers, with_members, with_declarators, with_enumerators, with_declarator, with_inside, with_parameters, with_bare};
 
-use crate::types::Types;
+use crate::names::Names;
 use base_core::Lexeme;
 use c_tree::{
     Bare, Declarator, Enumerator, Expr, Member, ParamForm, Parameter, SpecWord, TypeName,
 };
 use std::alloc::AllocError;
 
-pub(crate) fn add_name(name: &Lexeme, names: &mut Types) -> Result<(), AllocError>
+pub(crate) fn add_name(name: &Lexeme, names: &mut Names) -> Result<(), AllocError>
     ensures { OnOk result (names.new ≡ with_name names.old name.now) }
 {
     names.add(name.as_bytes())
 }
 
 #[cycle(add)]
-pub(crate) fn add_expression(e: &Expr, names: &mut Types) -> Result<(), AllocError>
+pub(crate) fn add_expression(e: &Expr, names: &mut Names) -> Result<(), AllocError>
     ensures { OnOk result (names.new ≡ with_expression names.old (view_expression e.now)) }
 {
     match e {
@@ -53,7 +52,7 @@ pub(crate) fn add_expression(e: &Expr, names: &mut Types) -> Result<(), AllocErr
 }
 
 #[cycle(add)]
-fn add_expressions(all: &[Expr], names: &mut Types) -> Result<(), AllocError>
+fn add_expressions(all: &[Expr], names: &mut Names) -> Result<(), AllocError>
     ensures { OnOk result (names.new ≡ with_expressions names.old (expressions_of (map view_expression all.now))) }
 {
     for e in all {
@@ -63,7 +62,7 @@ fn add_expressions(all: &[Expr], names: &mut Types) -> Result<(), AllocError>
 }
 
 #[cycle(add)]
-fn add_sizes(all: &[Option<Expr>], names: &mut Types) -> Result<(), AllocError>
+fn add_sizes(all: &[Option<Expr>], names: &mut Names) -> Result<(), AllocError>
     ensures { OnOk result (names.new ≡ with_sizes names.old (sizes_of (map (option_map view_expression) all.now))) }
 {
     for size in all {
@@ -76,7 +75,7 @@ fn add_sizes(all: &[Option<Expr>], names: &mut Types) -> Result<(), AllocError>
 }
 
 #[cycle(add)]
-fn add_type(t: &TypeName, names: &mut Types) -> Result<(), AllocError>
+fn add_type(t: &TypeName, names: &mut Names) -> Result<(), AllocError>
     ensures { OnOk result (names.new ≡ with_type names.old (view_type t.now)) }
 {
     add_specifiers(t.specs.as_slice(), names)?;
@@ -84,7 +83,7 @@ fn add_type(t: &TypeName, names: &mut Types) -> Result<(), AllocError>
 }
 
 #[cycle(add)]
-pub(crate) fn add_specifiers(all: &[SpecWord], names: &mut Types) -> Result<(), AllocError>
+pub(crate) fn add_specifiers(all: &[SpecWord], names: &mut Names) -> Result<(), AllocError>
     ensures { OnOk result (names.new ≡ with_specifiers names.old (specifiers_of (map view_specifier all.now))) }
 {
     for word in all {
@@ -98,7 +97,7 @@ pub(crate) fn add_specifiers(all: &[SpecWord], names: &mut Types) -> Result<(), 
 }
 
 #[cycle(add)]
-fn add_members(all: &[Member], names: &mut Types) -> Result<(), AllocError>
+fn add_members(all: &[Member], names: &mut Names) -> Result<(), AllocError>
     ensures { OnOk result (names.new ≡ with_members names.old (members_of (map view_member all.now))) }
 {
     for member in all {
@@ -109,7 +108,7 @@ fn add_members(all: &[Member], names: &mut Types) -> Result<(), AllocError>
 }
 
 #[cycle(add)]
-fn add_declarators(all: &[Declarator], names: &mut Types) -> Result<(), AllocError>
+fn add_declarators(all: &[Declarator], names: &mut Names) -> Result<(), AllocError>
     ensures { OnOk result (names.new ≡ with_declarators names.old (declarators_of (map view_declarator all.now))) }
 {
     for declarator in all {
@@ -119,7 +118,7 @@ fn add_declarators(all: &[Declarator], names: &mut Types) -> Result<(), AllocErr
 }
 
 #[cycle(add)]
-fn add_enumerators(all: &[Enumerator], names: &mut Types) -> Result<(), AllocError>
+fn add_enumerators(all: &[Enumerator], names: &mut Names) -> Result<(), AllocError>
     ensures { OnOk result (names.new ≡ with_enumerators names.old (enumerators_of (map view_enumerator all.now))) }
 {
     for enumerator in all {
@@ -133,7 +132,7 @@ fn add_enumerators(all: &[Enumerator], names: &mut Types) -> Result<(), AllocErr
 }
 
 #[cycle(add)]
-pub(crate) fn add_declarator(d: &Declarator, names: &mut Types) -> Result<(), AllocError>
+pub(crate) fn add_declarator(d: &Declarator, names: &mut Names) -> Result<(), AllocError>
     ensures { OnOk result (names.new ≡ with_declarator names.old (view_declarator d.now)) }
 {
     match d {
@@ -155,7 +154,7 @@ pub(crate) fn add_declarator(d: &Declarator, names: &mut Types) -> Result<(), Al
 }
 
 #[cycle(add)]
-pub(crate) fn add_parameters(all: &[Parameter], names: &mut Types) -> Result<(), AllocError>
+pub(crate) fn add_parameters(all: &[Parameter], names: &mut Names) -> Result<(), AllocError>
     ensures { OnOk result (names.new ≡ with_parameters names.old (parameters_of (map view_parameter all.now))) }
 {
     for parameter in all {
@@ -169,7 +168,7 @@ pub(crate) fn add_parameters(all: &[Parameter], names: &mut Types) -> Result<(),
 }
 
 #[cycle(add)]
-fn add_bare(b: &Bare, names: &mut Types) -> Result<(), AllocError>
+fn add_bare(b: &Bare, names: &mut Names) -> Result<(), AllocError>
     ensures { OnOk result (names.new ≡ with_bare names.old (view_bare b.now)) }
 {
     match b {
@@ -178,7 +177,7 @@ fn add_bare(b: &Bare, names: &mut Types) -> Result<(), AllocError>
     }
 }
 
-pub(crate) fn add_inside(d: &Declarator, names: &mut Types) -> Result<(), AllocError>
+pub(crate) fn add_inside(d: &Declarator, names: &mut Names) -> Result<(), AllocError>
     ensures { OnOk result (names.new ≡ with_inside names.old (view_declarator d.now)) }
 {
     match d {
@@ -190,11 +189,4 @@ pub(crate) fn add_inside(d: &Declarator, names: &mut Types) -> Result<(), AllocE
             add_parameters(params.items.as_slice(), names)
         }
     }
-}
-
-/// Adds the names that the sizes and the parameters of a declarator declare. Err where there is not enough memory.
-pub fn declare_inside(d: &Declarator, names: &mut Types) -> Result<(), AllocError>
-    ensures { OnOk result (names.new ≡ names.old ++ declared_inside (view_declarator d.now)) }
-{
-    add_inside(d, names)
 }

@@ -8,12 +8,12 @@ ghost use Rattle.program_scope.specs.With.{with_init, with_initializers, with_na
 use crate::expressions::{
     add_declarator, add_expression, add_name, add_parameters, add_specifiers,
 };
-use crate::types::Types;
+use crate::names::Names;
 use c_tree::{Decl, Expr, ForStart, Function, Init, Named, Part, Stmt};
 use std::alloc::AllocError;
 
 #[cycle(add_init)]
-fn add_init(i: &Init, names: &mut Types) -> Result<(), AllocError>
+fn add_init(i: &Init, names: &mut Names) -> Result<(), AllocError>
     ensures { OnOk result (names.new ≡ with_init names.old (view_init i.now)) }
 {
     match i {
@@ -23,7 +23,7 @@ fn add_init(i: &Init, names: &mut Types) -> Result<(), AllocError>
 }
 
 #[cycle(add_init)]
-fn add_parts(all: &[Part], names: &mut Types) -> Result<(), AllocError>
+fn add_parts(all: &[Part], names: &mut Names) -> Result<(), AllocError>
     ensures { OnOk result (names.new ≡ with_initializers names.old (initializers_of (map view_part all.now))) }
 {
     for part in all {
@@ -32,7 +32,7 @@ fn add_parts(all: &[Part], names: &mut Types) -> Result<(), AllocError>
     Ok(())
 }
 
-pub(crate) fn add_named(n: &Named, names: &mut Types) -> Result<(), AllocError>
+pub(crate) fn add_named(n: &Named, names: &mut Names) -> Result<(), AllocError>
     ensures { OnOk result (names.new ≡ with_named names.old (view_named n.now)) }
 {
     add_declarator(&n.declarator, names)?;
@@ -42,7 +42,7 @@ pub(crate) fn add_named(n: &Named, names: &mut Types) -> Result<(), AllocError>
     }
 }
 
-fn add_names(all: &[Named], names: &mut Types) -> Result<(), AllocError>
+fn add_names(all: &[Named], names: &mut Names) -> Result<(), AllocError>
     ensures { OnOk result (names.new ≡ with_names names.old (map view_named all.now)) }
 {
     for named in all {
@@ -51,14 +51,14 @@ fn add_names(all: &[Named], names: &mut Types) -> Result<(), AllocError>
     Ok(())
 }
 
-fn add_declaration(d: &Decl, names: &mut Types) -> Result<(), AllocError>
+fn add_declaration(d: &Decl, names: &mut Names) -> Result<(), AllocError>
     ensures { OnOk result (names.new ≡ with_declaration names.old (view_declaration d.now)) }
 {
     add_specifiers(d.specs.as_slice(), names)?;
     add_names(d.names.as_slice(), names)
 }
 
-fn add_optional(e: &Option<Expr>, names: &mut Types) -> Result<(), AllocError>
+fn add_optional(e: &Option<Expr>, names: &mut Names) -> Result<(), AllocError>
     ensures { OnOk result (names.new ≡ with_optional names.old (option_map view_expression e.now)) }
 {
     match e {
@@ -67,7 +67,7 @@ fn add_optional(e: &Option<Expr>, names: &mut Types) -> Result<(), AllocError>
     }
 }
 
-fn add_start(start: &ForStart, names: &mut Types) -> Result<(), AllocError>
+fn add_start(start: &ForStart, names: &mut Names) -> Result<(), AllocError>
     ensures { OnOk result (names.new ≡ with_start names.old (view_start start.now)) }
 {
     match start {
@@ -77,7 +77,7 @@ fn add_start(start: &ForStart, names: &mut Types) -> Result<(), AllocError>
 }
 
 #[cycle(add_statement)]
-fn add_statement(s: &Stmt, names: &mut Types) -> Result<(), AllocError>
+fn add_statement(s: &Stmt, names: &mut Names) -> Result<(), AllocError>
     ensures { OnOk result (names.new ≡ with_statement names.old (view_statement s.now)) }
 {
     match s {
@@ -110,7 +110,7 @@ fn add_statement(s: &Stmt, names: &mut Types) -> Result<(), AllocError>
 }
 
 #[cycle(add_statement)]
-fn add_statements(all: &[Stmt], names: &mut Types) -> Result<(), AllocError>
+fn add_statements(all: &[Stmt], names: &mut Names) -> Result<(), AllocError>
     ensures { OnOk result (names.new ≡ with_statements names.old (statements_of (map view_statement all.now))) }
 {
     for statement in all {
@@ -119,7 +119,7 @@ fn add_statements(all: &[Stmt], names: &mut Types) -> Result<(), AllocError>
     Ok(())
 }
 
-pub(crate) fn add_function(f: &Function, names: &mut Types) -> Result<(), AllocError>
+pub(crate) fn add_function(f: &Function, names: &mut Names) -> Result<(), AllocError>
     ensures { OnOk result (names.new ≡ with_function names.old (view_function f.now)) }
 {
     add_specifiers(f.specs.as_slice(), names)?;

@@ -2,16 +2,14 @@
 //! anything else before it.
 //!
 //! [`Scope`] holds both lists. Its methods go on past a part of the program, as `behind_specifiers`, `behind_named` and
-//! `behind_item` of c_tree's `specs/Shape.antt` say. [`declare_inside`] adds the names that a declarator's sizes and
-//! parameters declare. The walks over a tree pass its parts in order, as `specs/With.antt`; that each adds what c_tree's
-//! `specs/DeclaredNames.antt` lists is proved in `proofs/Adds.antt`.
+//! `behind_item` of c_tree's `specs/Shape.antt` say. [`Names`] is a set of names. The walks over a tree pass its parts in order,
+//! as `specs/With.antt`; that each adds what c_tree's `specs/DeclaredNames.antt` lists is proved in `proofs/Adds.antt`.
 #![tactic(auto)]
 
 mod expressions;
 mod items;
+mod names;
 mod scope;
-mod types;
 
-pub use expressions::declare_inside;
+pub use names::Names;
 pub use scope::Scope;
-pub use types::Types;

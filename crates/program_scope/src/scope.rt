@@ -9,7 +9,7 @@ ghost use Rattle.program_scope.specs.With.{with_all};
 
 use crate::expressions::{add_inside, add_specifiers};
 use crate::items::{add_function, add_named};
-use crate::types::Types;
+use crate::names::Names;
 use base_core::Lexeme;
 use c_tree::{Decl, Declarator, Item, Named, SpecWord, Storage};
 use std::alloc::{AllocError, Global};
@@ -60,8 +60,8 @@ const BUILT_IN: [&[u8]; 38] = [
 /// The names that a point of the text follows: those that are types, and those declared as anything else, of any scope.
 #[derive(Drop)]
 pub struct Scope {
-    types: Types,
-    others: Types,
+    types: Names,
+    others: Names,
 }
 
 impl Model for Scope {
@@ -72,7 +72,7 @@ impl Model for Scope {
     ghost view = { λ s. record { types = s.types; others = s.others } };
 }
 
-fn add_all(all: &[&[u8]], names: &mut Types) -> Result<(), AllocError>
+fn add_all(all: &[&[u8]], names: &mut Names) -> Result<(), AllocError>
     ensures { OnOk result (names.new ≡ with_all names.old (map (λ w. w.now) all.now)) }
 {
     for name in all {
@@ -98,23 +98,23 @@ impl Scope {
     pub fn first(alloc: Global) -> Result<Self, AllocError>
         ensures { IfOk result (λ s. s ≡ first_scope) }
     {
-        let mut types = Types::new(alloc);
+        let mut types = Names::new(alloc);
         add_all(&BUILT_IN, &mut types)?;
         Ok(Scope {
             types,
-            others: Types::new(alloc),
+            others: Names::new(alloc),
         })
     }
 
     /// The names that are types.
-    pub fn types(&self) -> &Types
+    pub fn types(&self) -> &Names
         ensures { result.now ≡ self.now.types }
     {
         &self.types
     }
 
     /// The names that are declared as anything else, of any scope.
-    pub fn others(&self) -> &Types
+    pub fn others(&self) -> &Names
         ensures { result.now ≡ self.now.others }
     {
         &self.others

@@ -59,28 +59,28 @@ module _ (t : Types) (d : ℕ) (p : Place) where
   strict_on n (refused us) = refl
   strict_on n (exceeded us) = refl
 
-  statements_on : (i : Input) → same_kind (kind t i.rest) k.CloseBrace ≡ false → read (all_statements t d p) i ≡ and_then (perform (one_statement t d p) i) others
+  statements_on : (i : Input) → same_kind (kind t.names i.rest) k.CloseBrace ≡ false → read (all_statements t d p) i ≡ and_then (perform (one_statement t d p) i) others
   statements_on i other =
       statements_performs t d p i
-      ∙ ap (λ b. perform b i) (statements_some (kind t i.rest) (same_false (kind t i.rest) k.CloseBrace other))
+      ∙ ap (λ b. perform b i) (statements_some (kind t.names i.rest) (same_false (kind t.names i.rest) k.CloseBrace other))
       ∙ strict_on (length i.rest) (read (a_statement t d p 1) i)
 
   -- one statement more
-  pub statements_turn : (i j : Input) (x : StatementTree) → same_kind (kind t i.rest) k.CloseBrace ≡ false → perform (one_statement t d p) i ≡ got x j.rest j.meter →
+  pub statements_turn : (i j : Input) (x : StatementTree) → same_kind (kind t.names i.rest) k.CloseBrace ≡ false → perform (one_statement t d p) i ≡ got x j.rest j.meter →
       Turn statements x (read (all_statements t d p) i) (read (all_statements t d p) j)
   statements_turn i j x other e = record { is = statements_on i other ∙ ap (λ o. and_then o others) e }
 
-  pub statements_fail : (i : Input) (e : Refusal) → same_kind (kind t i.rest) k.CloseBrace ≡ false → Fails (perform (one_statement t d p) i) e → Fails (read (all_statements t d p) i) e
+  pub statements_fail : (i : Input) (e : Refusal) → same_kind (kind t.names i.rest) k.CloseBrace ≡ false → Fails (perform (one_statement t d p) i) e → Fails (read (all_statements t d p) i) e
   statements_fail i e other h = subst (λ o. Fails o e) (sym (statements_on i other)) (then_fails others h)
 
   pub statements_shorter : (i j : Input) (x : StatementTree) → perform (one_statement t d p) i ≡ got x j.rest j.meter → length j.rest < length i.rest
   statements_shorter i j x e = subst (λ o. Under (length i.rest) o) e (strict_under (length i.rest) (read (a_statement t d p 1) i))
 
   -- the closing brace
-  pub statements_end : (i j : Input) → same_kind (kind t i.rest) k.CloseBrace ≡ true → j ≡ next i → read (all_statements t d p) i ≡ got no_statements j.rest j.meter
+  pub statements_end : (i j : Input) → same_kind (kind t.names i.rest) k.CloseBrace ≡ true → j ≡ next i → read (all_statements t d p) i ≡ got no_statements j.rest j.meter
   statements_end i j is go =
       statements_performs t d p i
-      ∙ ap (λ x. perform (statements_by t d p x) i) (same_true (kind t i.rest) k.CloseBrace is)
+      ∙ ap (λ x. perform (statements_by t d p x) i) (same_true (kind t.names i.rest) k.CloseBrace is)
       ∙ ap (λ z. got no_statements z.rest z.meter) (sym go)
 
 -- the list of all of them

@@ -18,9 +18,9 @@ use crate::place::Place;
 use crate::reader::{Found, Nested, Statements};
 use c_grammar::{Cursor, Kind};
 use c_tree::{Expr, ForStart, Stmt};
+use expression_parser::grammar::Types;
 use expression_parser::refusal::Refusal;
 use expression_parser::steps::{expect, spend};
-use program_scope::Types;
 use sqlite_items::{Boxed, Items};
 use std::alloc::{AllocError, Global};
 
@@ -33,7 +33,7 @@ fn as_block(alloc: Global, found: Items<Stmt>) -> Result<Boxed<Stmt>, AllocError
 }
 
 impl<
-    F: Fn(Global, &Types, &mut Cursor<'_>, usize, u32, Nested) -> Result<Found, Refusal>,
+    F: Fn(Global, &Types<'_>, &mut Cursor<'_>, usize, u32, Nested) -> Result<Found, Refusal>,
 > Statements<'_, F> {
     /// Statements in their braces.
     #[tactic(auto, using(c_tree::proofs::StatementViewLemmas::view_Stmt_Block))]

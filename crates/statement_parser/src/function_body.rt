@@ -11,13 +11,17 @@ use crate::nest;
 use crate::place::Place;
 use c_grammar::Cursor;
 use c_tree::Stmt;
+use expression_parser::grammar::Types;
 use expression_parser::refusal::Refusal;
-use program_scope::Types;
 use sqlite_items::Items;
 use std::alloc::Global;
 
 /// The statements of a function's body, with its closing brace.
-pub fn body(alloc: Global, types: &Types, cursor: &mut Cursor<'_>) -> Result<Items<Stmt>, Refusal>
+pub fn body(
+    alloc: Global,
+    types: &Types<'_>,
+    cursor: &mut Cursor<'_>,
+) -> Result<Items<Stmt>, Refusal>
     ensures { Gives (λ ss. statements_of (map view_statement ss)) (read (all_statements types.now 3 (of_block outside)) cursor.old) result cursor.new }
 {
     let place = Place::outside().of_block();

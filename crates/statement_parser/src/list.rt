@@ -14,14 +14,14 @@ use crate::place::Place;
 use crate::reader::{Found, Nested, Statements};
 use c_grammar::{Cursor, Kind, same_kind};
 use c_tree::Stmt;
+use expression_parser::grammar::Types;
 use expression_parser::refusal::Refusal;
 use expression_parser::steps::{kind, refused};
-use program_scope::Types;
 use sqlite_items::{Boxed, Items};
 use std::alloc::Global;
 
 impl<
-    F: Fn(Global, &Types, &mut Cursor<'_>, usize, u32, Nested) -> Result<Found, Refusal>,
+    F: Fn(Global, &Types<'_>, &mut Cursor<'_>, usize, u32, Nested) -> Result<Found, Refusal>,
 > Statements<'_, F> {
     /// One statement of a block. It takes a token at least, so that the second refusal never comes.
     fn one(&self, cursor: &mut Cursor<'_>, d: u32, place: Place) -> Result<Boxed<Stmt>, Refusal>

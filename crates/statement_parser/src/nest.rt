@@ -12,8 +12,8 @@ use crate::place::Place;
 use crate::reader::{Found, Nested, Statements};
 use c_grammar::Cursor;
 use c_tree::Stmt;
+use expression_parser::grammar::Types;
 use expression_parser::refusal::Refusal;
-use program_scope::Types;
 use sqlite_items::{Boxed, Items};
 use std::alloc::Global;
 
@@ -23,7 +23,7 @@ const MAX_NESTING: usize = 10_000;
 /// Reads what nests. Where it nests too often, there is no memory for it.
 fn nested(
     alloc: Global,
-    types: &Types,
+    types: &Types<'_>,
     cursor: &mut Cursor<'_>,
     budget: usize,
     d: u32,
@@ -37,7 +37,7 @@ fn nested(
     }
     let reader = Statements {
         alloc,
-        types,
+        types: &*types,
         budget: budget - 1,
         read: nested,
     };
@@ -52,7 +52,7 @@ fn nested(
 /// The statements of a block at this place, with the closing brace.
 pub fn block(
     alloc: Global,
-    types: &Types,
+    types: &Types<'_>,
     cursor: &mut Cursor<'_>,
     d: u32,
     place: Place,

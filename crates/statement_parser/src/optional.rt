@@ -12,10 +12,10 @@ ghost use Rattle.expression_parser.specs.Gives.{Gives};
 use c_grammar::{Cursor, Kind, same_kind};
 use c_tree::{Expr, ForStart};
 use declaration_parser::declaration;
+use expression_parser::grammar::Types;
 use expression_parser::infix::begins_type;
 use expression_parser::refusal::Refusal;
 use expression_parser::steps::{expect, kind, spend};
-use program_scope::Types;
 use std::alloc::Global;
 use type_parser::nest::expression;
 
@@ -33,7 +33,7 @@ pub fn begins_declaration(kind: Kind) -> bool
 #[tactic(auto, using(expression_parser::proofs::Opens::optional_performs))]
 pub fn optional(
     alloc: Global,
-    types: &Types,
+    types: &Types<'_>,
     cursor: &mut Cursor<'_>,
     d: u32,
     end: Kind,
@@ -55,7 +55,7 @@ pub fn optional(
 #[tactic(auto, using(expression_parser::proofs::Opens::start_performs))]
 pub fn start(
     alloc: Global,
-    types: &Types,
+    types: &Types<'_>,
     cursor: &mut Cursor<'_>,
     d: u32,
 ) -> Result<ForStart, Refusal>

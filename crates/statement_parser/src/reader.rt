@@ -12,8 +12,8 @@ ghost use Rattle.statement_parser.specs.Place.{view_place};
 use crate::place::Place;
 use c_grammar::Cursor;
 use c_tree::{Expr, Stmt};
+use expression_parser::grammar::Types;
 use expression_parser::refusal::Refusal;
-use program_scope::Types;
 use sqlite_items::{Boxed, Items};
 use std::alloc::Global;
 use type_parser::nest::expression;
@@ -37,14 +37,14 @@ pub enum Found {
 pub struct Statements<'a, F> {
     pub alloc: Global,
     /// The names that are types.
-    pub types: &'a Types,
+    pub types: &'a Types<'a>,
     /// How often statements may still nest.
     pub budget: usize,
     pub read: F,
 }
 
 impl<
-    F: Fn(Global, &Types, &mut Cursor<'_>, usize, u32, Nested) -> Result<Found, Refusal>,
+    F: Fn(Global, &Types<'_>, &mut Cursor<'_>, usize, u32, Nested) -> Result<Found, Refusal>,
 > Statements<'_, F> {
     /// A statement, whose first token makes so many nodes necessary besides its own.
     pub fn statement(

@@ -17,9 +17,10 @@ use base_core::Lexeme;
 use c_grammar::{Cursor, Kind};
 use c_tree::{Expr, Stmt};
 use declaration_parser::declaration;
+use expression_parser::grammar::Types;
+use expression_parser::infix::infix_behind;
 use expression_parser::refusal::Refusal;
 use expression_parser::steps::{expect, name, refused, spend, word};
-use program_scope::Types;
 use std::alloc::Global;
 use type_parser::nest::{expression, rest};
 
@@ -27,7 +28,7 @@ use type_parser::nest::{expression, rest};
 #[tactic(auto, using(c_tree::proofs::StatementViewLemmas::view_Stmt_Expr))]
 pub fn expressed(
     alloc: Global,
-    types: &Types,
+    types: &Types<'_>,
     cursor: &mut Cursor<'_>,
     d: u32,
     owed: u32,
@@ -45,7 +46,7 @@ pub fn expressed(
 #[tactic(auto, using(c_tree::proofs::ViewLemmas::view_Expr_Name, c_tree::proofs::StatementViewLemmas::view_Stmt_Expr))]
 fn named_expression(
     alloc: Global,
-    types: &Types,
+    types: &Types<'_>,
     cursor: &mut Cursor<'_>,
     d: u32,
     name: Lexeme,
@@ -61,11 +62,21 @@ fn named_expression(
     Ok(Stmt::Expr(Some(found)))
 }
 
+/// Whether a statement that begins with a name as an expression goes on with a token of this kind.
+fn follows_name(kind: Kind) -> bool
+    ensures { result ≡ rules.follows_name kind }
+{
+    match kind {
+        Kind::Semicolon => true,
+        _ => infix_behind(1, kind, 17).is_some(),
+    }
+}
+
 /// Behind a name that begins a statement in a block: its colon where it is a label, or an expression goes on.
 #[tactic(auto, using(c_tree::proofs::StatementViewLemmas::view_Stmt_Label))]
 fn labelled(
     alloc: Global,
-    types: &Types,
+    types: &Types<'_>,
     cursor: &mut Cursor<'_>,
     d: u32,
     name: Lexeme,
@@ -78,14 +89,20 @@ fn labelled(
             cursor.take();
             Ok(Stmt::Label(name))
         }
-        _ => named_expression(alloc, types, cursor, d, name),
+        other => {
+            if follows_name(other) {
+                named_expression(alloc, types, cursor, d, name)
+            } else {
+                Err(refused(cursor))
+            }
+        }
     }
 }
 
 /// A statement that begins with a name: directly in a block perhaps a label.
 pub fn named(
     alloc: Global,
-    types: &Types,
+    types: &Types<'_>,
     cursor: &mut Cursor<'_>,
     d: u32,
     place: Place,
@@ -107,7 +124,7 @@ pub fn named(
 #[tactic(auto, using(c_tree::proofs::StatementViewLemmas::view_Stmt_Decl))]
 pub fn declared(
     alloc: Global,
-    types: &Types,
+    types: &Types<'_>,
     cursor: &mut Cursor<'_>,
     d: u32,
     place: Place,
@@ -126,7 +143,7 @@ pub fn declared(
 /// A semicolon alone.
 #[tactic(auto, using(c_tree::proofs::StatementViewLemmas::view_Stmt_Expr))]
 pub fn empty(
-    types: &Types,
+    types: &Types<'_>,
     cursor: &mut Cursor<'_>,
     d: u32,
     place: Place,
@@ -144,7 +161,7 @@ pub fn empty(
 #[tactic(auto, using(c_tree::proofs::StatementViewLemmas::view_Stmt_Case))]
 pub fn case(
     alloc: Global,
-    types: &Types,
+    types: &Types<'_>,
     cursor: &mut Cursor<'_>,
     d: u32,
     place: Place,
@@ -167,7 +184,7 @@ pub fn case(
 /// The default of a switch.
 #[tactic(auto, using(c_tree::proofs::StatementViewLemmas::view_Stmt_Default))]
 pub fn default(
-    types: &Types,
+    types: &Types<'_>,
     cursor: &mut Cursor<'_>,
     d: u32,
     place: Place,
@@ -188,7 +205,7 @@ pub fn default(
 /// A break, which stands in a loop or a switch.
 #[tactic(auto, using(c_tree::proofs::StatementViewLemmas::view_Stmt_Break))]
 pub fn break_out(
-    types: &Types,
+    types: &Types<'_>,
     cursor: &mut Cursor<'_>,
     d: u32,
     place: Place,
@@ -209,7 +226,7 @@ pub fn break_out(
 /// A continue, which stands in a loop.
 #[tactic(auto, using(c_tree::proofs::StatementViewLemmas::view_Stmt_Continue))]
 pub fn continue_on(
-    types: &Types,
+    types: &Types<'_>,
     cursor: &mut Cursor<'_>,
     d: u32,
     place: Place,
@@ -231,7 +248,7 @@ pub fn continue_on(
 #[tactic(auto, using(c_tree::proofs::StatementViewLemmas::view_Stmt_Return))]
 pub fn return_back(
     alloc: Global,
-    types: &Types,
+    types: &Types<'_>,
     cursor: &mut Cursor<'_>,
     d: u32,
     place: Place,
@@ -251,7 +268,7 @@ pub fn return_back(
 #[tactic(auto, using(c_tree::proofs::StatementViewLemmas::view_Stmt_Goto))]
 pub fn go_to(
     alloc: Global,
-    types: &Types,
+    types: &Types<'_>,
     cursor: &mut Cursor<'_>,
     d: u32,
     place: Place,

@@ -16,15 +16,15 @@ use crate::reader::{Found, Nested, Statements};
 use crate::simple;
 use c_grammar::{Cursor, Kind};
 use c_tree::Stmt;
+use expression_parser::grammar::Types;
 use expression_parser::refusal::Refusal;
 use expression_parser::steps::kind;
-use program_scope::Types;
 use std::alloc::Global;
 
 /// A statement that no keyword begins, at a token of this kind.
 fn plain_statement(
     alloc: Global,
-    types: &Types,
+    types: &Types<'_>,
     cursor: &mut Cursor<'_>,
     d: u32,
     place: Place,
@@ -50,7 +50,7 @@ fn plain_statement(
 /// A statement that holds no others, at a token of this kind.
 fn simple_statement(
     alloc: Global,
-    types: &Types,
+    types: &Types<'_>,
     cursor: &mut Cursor<'_>,
     d: u32,
     place: Place,
@@ -74,7 +74,7 @@ fn simple_statement(
 }
 
 impl<
-    F: Fn(Global, &Types, &mut Cursor<'_>, usize, u32, Nested) -> Result<Found, Refusal>,
+    F: Fn(Global, &Types<'_>, &mut Cursor<'_>, usize, u32, Nested) -> Result<Found, Refusal>,
 > Statements<'_, F> {
     /// A statement at a token of this kind.
     fn begun(

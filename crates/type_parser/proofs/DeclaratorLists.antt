@@ -119,7 +119,7 @@ module _ (t : Types) (d : ℕ) where
   sizes_on i is =
       sizes_performs t d i
       ∙ ap (λ x. perform (sizes_by t d x) i) (same_true (kind [] i.rest) k.OpenBracket is)
-      ∙ (size_joined (kind t (next i).rest) (next i)).is
+      ∙ (size_joined (kind t.names (next i).rest) (next i)).is
       ∙ ap (λ o. and_then o other_sizes) (same_mapped (perform (bracketed t d) i))
 
   pub sizes_turn : (i j : Input) (v : Option Expression) → same_kind (kind [] i.rest) k.OpenBracket ≡ true → perform (bracketed t d) i ≡ got v j.rest j.meter →
@@ -130,7 +130,7 @@ module _ (t : Types) (d : ℕ) where
   sizes_fail i e is h = subst (λ o. Fails o e) (sym (sizes_on i is)) (then_fails other_sizes h)
 
   pub sizes_shorter : (i j : Input) (v : Option Expression) → same_kind (kind [] i.rest) k.OpenBracket ≡ true → perform (bracketed t d) i ≡ got v j.rest j.meter → length j.rest < length i.rest
-  sizes_shorter i j v is e = skip_shorter (body.look t (bracketed_by t d)) i j v (taken_tail i.rest k.OpenBracket is (λ e. absurd cc)) e
+  sizes_shorter i j v is e = skip_shorter (body.look t.names (bracketed_by t d)) i j v (taken_tail i.rest k.OpenBracket is (λ e. absurd cc)) e
 
   sizes_off : (x : Kind) → x ≢ k.OpenBracket → sizes_by t d x ≡ done no_sizes
   sizes_off k.OpenBracket other = absurd (other refl)
@@ -146,7 +146,7 @@ module _ (t : Types) (d : ℕ) where
 
   one_begun : (x : Kind) (i : Input) → perform (at_most_one_by t d x) i ≡ one_by x i
   one_begun k.OpenBracket i =
-      (one_joined (kind t (next i).rest) (next i)).is
+      (one_joined (kind t.names (next i).rest) (next i)).is
       ∙ ap (λ o. and_then o no_other) (same_mapped (perform (bracketed t d) i))
       ∙ tail_mapped (λ v. sized v no_sizes) (perform (bracketed t d) i)
   one_begun _ i = refl

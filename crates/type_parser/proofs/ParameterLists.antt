@@ -13,7 +13,7 @@ use Rattle.c_grammar.specs.Body.{stop, look, Outcome, got, refused, exceeded, an
 use Rattle.c_grammar.specs.Gauge.{Meter, left, entered}
 use Rattle.c_grammar.specs.Input.{Input, next, metered}
 use Rattle.c_grammar.specs.Reading.{read}
-use Rattle.c_grammar.specs.Rules.{Types, Parameter, parameter_by, a_parameter, all_specifiers, all_stars, some_parameters, more_parameters, more_parameters_by, listed_parameters}
+use Rattle.c_grammar.specs.Rules.{Types, Parameter, parameter_by, a_parameter, all_specifiers, all_stars, some_parameters, more_parameters, more_parameters_by, listed_parameters, barred}
 use Rattle.c_grammar.proofs.KindLemmas.{kind_end, same_true, same_false}
 use Rattle.expression_parser.specs.declared.refusal.Refusal.{Refusal}
 use Rattle.expression_parser.specs.declared.refusal.Refusal.TheVariants.{Syntax}
@@ -125,12 +125,12 @@ module _ (t : Types) (d : ℕ) where
       subst (λ o. Fails o e) (sym h) (subst (λ r. Fails {B = Parameters} (refused i.rest) r) (sym is) f)
 
 -- a parameter whose specifiers and stars were read
-pub parameter_on : (t : Types) (d : ℕ) (i j l : Input) (ws : Specifiers) (ss : Stars) → read (all_specifiers t d []) i ≡ got ws j.rest j.meter → read all_stars j ≡ got ss l.rest l.meter →
-    read (a_parameter t d) i ≡ perform (look t (parameter_by t d ws ss)) l
+pub parameter_on : (t : Types) (d : ℕ) (i j l : Input) (ws : Specifiers) (ss : Stars) → read (all_specifiers t d false []) i ≡ got ws j.rest j.meter → read all_stars j ≡ got ss l.rest l.meter →
+    read (a_parameter t d) i ≡ perform (look (barred t) (parameter_by t d ws ss)) l
 parameter_on t d i j l ws ss words stars =
     parameter_performs t d i
-    ∙ ap (λ o. and_then o (λ v us m. and_then (read all_stars (at us m)) (λ w vs n. perform (look t (parameter_by t d v w)) (at vs n)))) words
-    ∙ ap (λ o. and_then o (λ w vs n. perform (look t (parameter_by t d ws w)) (at vs n))) stars
+    ∙ ap (λ o. and_then o (λ v us m. and_then (read all_stars (at us m)) (λ w vs n. perform (look (barred t) (parameter_by t d v w)) (at vs n)))) words
+    ∙ ap (λ o. and_then o (λ w vs n. perform (look (barred t) (parameter_by t d ws w)) (at vs n))) stars
 
 -- the list of all of them
 pub before_none : (ps : List Parameter) → before with_parameter ps no_parameters ≡ parameters_of ps

@@ -1,18 +1,18 @@
 -- Specifiers, one by one.
-use Rattle.std.proofs.Common.{◌≡◌, ◌<◌, ◌≤◌, ℕ, Bool, true, false, cond, List, [], ◌∷◌, ◌++◌, length, Option, Some, None, refl, sym, ap, ◌∙◌, subst, arith}
+use Rattle.std.proofs.Common.{◌≡◌, ◌<◌, ◌≤◌, ℕ, ◌+◌, Bool, true, false, ◌&&◌, cond, List, [], ◌∷◌, ◌++◌, length, Option, Some, None, refl, sym, ap, ◌∙◌, subst, arith}
 use Rattle.c_tree.specs.Tree.{Specifier, Specifiers, no_specifiers, specifiers, type_name}
 use Rattle.c_tree.specs.TypeWords.{TypeWord, is_one_type, of_whole}
 use Rattle.c_tree.specs.Marks.{Tokens}
 use Rattle.c_tree.specs.View.{specifiers_of}
 use Rattle.c_grammar.specs.declared.kind.Kind.{Kind}
 use Rattle.c_grammar.specs.Kind.{kind, tail_of, head_text}
-use Rattle.c_grammar.specs.Body.{done, stop, Outcome, got, refused, exceeded, and_then, Reader}
+use Rattle.c_grammar.specs.Body.{done, stop, take, Outcome, got, refused, exceeded, and_then, and_paid, Reader}
 use Rattle.c_grammar.specs.Body as body
-use Rattle.c_grammar.specs.Gauge.{Meter}
-use Rattle.c_grammar.specs.Input.{Input, next}
+use Rattle.c_grammar.specs.Gauge.{Meter, within, added}
+use Rattle.c_grammar.specs.Input.{Input, next, metered}
 use Rattle.c_grammar.specs.Reading.{read}
 use Rattle.c_grammar.specs.Rules as rules
-use Rattle.c_grammar.specs.Rules.{Reads, Types, all_specifiers, specifiers_by, ends_type, start_of, a_struct, an_enum}
+use Rattle.c_grammar.specs.Rules.{Reads, Types, skip, naming, all_specifiers, specifiers_by, ends_type, start_of, a_struct, an_enum}
 use Rattle.c_grammar.proofs.KindLemmas.{kind_end}
 use Rattle.expression_parser.specs.declared.refusal.Refusal.{Refusal}
 use Rattle.expression_parser.specs.declared.refusal.Refusal.TheVariants.{Syntax}
@@ -22,60 +22,83 @@ use Rattle.expression_parser.specs.Performing.{perform, at}
 use Rattle.expression_parser.proofs.Joining.{tail_mapped, then_fails, perform_leaves}
 use Rattle.expression_parser.proofs.Loops.{Turn, Loop, loop_begins}
 use Rattle.expression_parser.proofs.Opens.{specifiers_performs}
-use Rattle.expression_parser.proofs.Shorter.{Leaves}
+use Rattle.expression_parser.proofs.Shorter.{Leaves, paid_leaves}
 use Rattle.type_parser.specs.declared.words.Start.{Start}
 use Rattle.type_parser.specs.declared.words.Start.TheVariants as s
 use Rattle.type_parser.specs.declared.words.Word.TheVariants as w
-use Rattle.type_parser.specs.SpecifierWords.{a_specifier, view_start, specifier_of, word_of, behind, goes_on, Follows, Ends, Goes}
+use Rattle.type_parser.specs.SpecifierWords.{a_specifier, is_type_word, stays, view_start, specifier_of, word_of, behind, goes_on, Follows, Ends, Goes}
 
 module _ (t : Types) (d : ℕ) where
   -- the specifiers behind one of them
-  abbrev others : List TypeWord → Specifier → Reader Meter Specifiers
-  others ws x us m = mapped (specifiers x) (read (all_specifiers t d ws) (at us m))
+  abbrev others : Bool → List TypeWord → Specifier → Reader Meter Specifiers
+  others b ws x us m = mapped (specifiers x) (read (all_specifiers t d b ws) (at us m))
 
   chosen : (b : Bool) (f g : Reads Specifiers) (i : Input) → b ≡ true → perform (cond b f g) i ≡ perform f i
   chosen true f g i may = refl
   chosen false f g i may = absurd cc
 
+  paid : (o : Option Meter) (ts : Tokens) (f : Meter → Outcome Meter Specifiers) (h : Meter → Outcome Meter Specifier) (g : Specifier → Reader Meter Specifiers) →
+      ((m : Meter) → f m ≡ and_then (h m) g) → and_paid o ts f ≡ and_then (and_paid o ts h) g
+  paid None ts f h g same = refl
+  paid (Some m) ts f h g same = same m
+
+  -- a name is counted before the specifier, or not
+  named : (b : Bool) (f : Reads Specifiers) (h : Reads Specifier) (g : Specifier → Reader Meter Specifiers) (i : Input) →
+      ((m : Meter) → perform f (metered m i) ≡ and_then (perform h (metered m i)) g) → perform (naming b d f) i ≡ and_then (perform (naming b d h) i) g
+  named true f h g i same = paid (within (added 1 (d + 1) i.meter)) i.rest _ _ g same
+  named false f h g i same = same i.meter
+
+  keyword : (b : Bool) (ws : List TypeWord) (x : Specifier) (i : Input) →
+      perform (naming b d (skip (body.call (all_specifiers t d false ws) (λ xs. done (specifiers x xs))))) i ≡ and_then (perform (naming b d (skip (done x))) i) (others false ws)
+  keyword b ws x i = named b _ _ (others false ws) i (λ m. tail_mapped (specifiers x) (read (all_specifiers t d false ws) (next (metered m i))))
+
+  type_word : (b : Bool) (ws : List TypeWord) (i : Input) →
+      perform (naming b d (take (λ n. body.call (all_specifiers t d false ws) (λ xs. done (specifiers (type_name n) xs))))) i ≡ and_then (perform (naming b d (take (λ n. done (type_name n)))) i) (others false ws)
+  type_word b ws i = named b _ _ (others false ws) i (λ m. tail_mapped (specifiers (type_name (head_text i.rest))) (read (all_specifiers t d false ws) (next (metered m i))))
+
   tagged : (ws : List TypeWord) (o : Outcome Meter Specifier) →
-      and_then o (λ x us m. and_then (read (all_specifiers t d ws) (at us m)) (λ xs vs n. got (specifiers x xs) vs n)) ≡ and_then (and_then o (λ x us m. got x us m)) (others ws)
-  tagged ws (got x us m) = tail_mapped (specifiers x) (read (all_specifiers t d ws) (at us m))
+      and_then o (λ x us m. and_then (read (all_specifiers t d false ws) (at us m)) (λ xs vs n. got (specifiers x xs) vs n)) ≡ and_then (and_then o (λ x us m. got x us m)) (others false ws)
+  tagged ws (got x us m) = tail_mapped (specifiers x) (read (all_specifiers t d false ws) (at us m))
   tagged ws (refused us) = refl
   tagged ws (exceeded us) = refl
 
-  goes : (ws : List TypeWord) (x : Start) (i : Input) → goes_on ws (view_start (Some x)) ≡ true →
-      perform (specifiers_by t d ws (view_start (Some x))) i ≡ and_then (perform (a_specifier t d x) i) (others (behind ws (word_of (view_start (Some x)))))
-  goes ws (s.Word w.Const) i may = tail_mapped (specifiers (specifier_of w.Const)) (read (all_specifiers t d ws) (next i))
-  goes ws (s.Word w.Volatile) i may = tail_mapped (specifiers (specifier_of w.Volatile)) (read (all_specifiers t d ws) (next i))
-  goes ws (s.Word w.Void) i may = chosen _ _ _ i may ∙ tail_mapped (specifiers (specifier_of w.Void)) (read (all_specifiers t d (behind ws (word_of (view_start (Some (s.Word w.Void)))))) (next i))
-  goes ws (s.Word w.Char) i may = chosen _ _ _ i may ∙ tail_mapped (specifiers (specifier_of w.Char)) (read (all_specifiers t d (behind ws (word_of (view_start (Some (s.Word w.Char)))))) (next i))
-  goes ws (s.Word w.Short) i may = chosen _ _ _ i may ∙ tail_mapped (specifiers (specifier_of w.Short)) (read (all_specifiers t d (behind ws (word_of (view_start (Some (s.Word w.Short)))))) (next i))
-  goes ws (s.Word w.Int) i may = chosen _ _ _ i may ∙ tail_mapped (specifiers (specifier_of w.Int)) (read (all_specifiers t d (behind ws (word_of (view_start (Some (s.Word w.Int)))))) (next i))
-  goes ws (s.Word w.Long) i may = chosen _ _ _ i may ∙ tail_mapped (specifiers (specifier_of w.Long)) (read (all_specifiers t d (behind ws (word_of (view_start (Some (s.Word w.Long)))))) (next i))
-  goes ws (s.Word w.Signed) i may = chosen _ _ _ i may ∙ tail_mapped (specifiers (specifier_of w.Signed)) (read (all_specifiers t d (behind ws (word_of (view_start (Some (s.Word w.Signed)))))) (next i))
-  goes ws (s.Word w.Unsigned) i may = chosen _ _ _ i may ∙ tail_mapped (specifiers (specifier_of w.Unsigned)) (read (all_specifiers t d (behind ws (word_of (view_start (Some (s.Word w.Unsigned)))))) (next i))
-  goes ws s.TypeName i may = chosen _ _ _ i may ∙ tail_mapped (specifiers (type_name (head_text i.rest))) (read (all_specifiers t d (ws ++ of_whole ∷ [])) (next i))
-  goes ws s.Struct i may = chosen _ _ _ i may ∙ tagged (ws ++ of_whole ∷ []) (read (a_struct t d) (next i))
-  goes ws s.Enum i may = chosen _ _ _ i may ∙ tagged (ws ++ of_whole ∷ []) (read (an_enum t d) (next i))
+  goes : (b : Bool) (ws : List TypeWord) (x : Start) (i : Input) → goes_on ws (view_start (Some x)) ≡ true →
+      perform (specifiers_by t d b ws (view_start (Some x))) i ≡ and_then (perform (a_specifier t d b x) i) (others (stays b (view_start (Some x))) (behind ws (word_of (view_start (Some x)))))
+  goes b ws (s.Word w.Const) i may = tail_mapped (specifiers (specifier_of w.Const)) (read (all_specifiers t d b ws) (next i))
+  goes b ws (s.Word w.Volatile) i may = tail_mapped (specifiers (specifier_of w.Volatile)) (read (all_specifiers t d b ws) (next i))
+  goes b ws (s.Word w.Void) i may = chosen _ _ _ i may ∙ keyword b (behind ws (word_of (view_start (Some (s.Word w.Void))))) (specifier_of w.Void) i
+  goes b ws (s.Word w.Char) i may = chosen _ _ _ i may ∙ keyword b (behind ws (word_of (view_start (Some (s.Word w.Char))))) (specifier_of w.Char) i
+  goes b ws (s.Word w.Short) i may = chosen _ _ _ i may ∙ keyword b (behind ws (word_of (view_start (Some (s.Word w.Short))))) (specifier_of w.Short) i
+  goes b ws (s.Word w.Int) i may = chosen _ _ _ i may ∙ keyword b (behind ws (word_of (view_start (Some (s.Word w.Int))))) (specifier_of w.Int) i
+  goes b ws (s.Word w.Long) i may = chosen _ _ _ i may ∙ keyword b (behind ws (word_of (view_start (Some (s.Word w.Long))))) (specifier_of w.Long) i
+  goes b ws (s.Word w.Signed) i may = chosen _ _ _ i may ∙ keyword b (behind ws (word_of (view_start (Some (s.Word w.Signed))))) (specifier_of w.Signed) i
+  goes b ws (s.Word w.Unsigned) i may = chosen _ _ _ i may ∙ keyword b (behind ws (word_of (view_start (Some (s.Word w.Unsigned))))) (specifier_of w.Unsigned) i
+  goes b ws s.TypeName i may = chosen _ _ _ i may ∙ type_word b (ws ++ of_whole ∷ []) i
+  goes b ws s.Struct i may = chosen _ _ _ i may ∙ tagged (ws ++ of_whole ∷ []) (read (a_struct t d) (next i))
+  goes b ws s.Enum i may = chosen _ _ _ i may ∙ tagged (ws ++ of_whole ∷ []) (read (an_enum t d) (next i))
 
-  goes_by : (ws : List TypeWord) (x : Start) (i : Input) (f : rules.Start) → f ≡ view_start (Some x) → goes_on ws f ≡ true →
-      perform (specifiers_by t d ws f) i ≡ and_then (perform (a_specifier t d x) i) (others (behind ws (word_of f)))
-  goes_by ws x i f is may =
-      subst (λ f. goes_on ws f ≡ true → perform (specifiers_by t d ws f) i ≡ and_then (perform (a_specifier t d x) i) (others (behind ws (word_of f)))) (sym is) (goes ws x i) may
+  goes_by : (b : Bool) (ws : List TypeWord) (x : Start) (i : Input) (f : rules.Start) → f ≡ view_start (Some x) → goes_on ws f ≡ true →
+      perform (specifiers_by t d b ws f) i ≡ and_then (perform (a_specifier t d b x) i) (others (stays b (view_start (Some x))) (behind ws (word_of f)))
+  goes_by b ws x i f is may =
+      subst (λ f. goes_on ws f ≡ true → perform (specifiers_by t d b ws f) i ≡ and_then (perform (a_specifier t d b x) i) (others (stays b (view_start (Some x))) (behind ws (word_of f)))) (sym is) (goes b ws x i) may
 
-  specifiers_on : (i : Input) (ws new : List TypeWord) (x : Start) → Follows (start_of (kind t i.rest)) ws x new →
-      read (all_specifiers t d ws) i ≡ and_then (perform (a_specifier t d x) i) (others new)
-  specifiers_on i ws new x h =
-      specifiers_performs t d ws i ∙ goes_by ws x i (start_of (kind t i.rest)) h.start h.goes ∙ ap (λ z. and_then (perform (a_specifier t d x) i) (others z)) (sym h.added)
+  specifiers_on : (i : Input) (b : Bool) (ws new : List TypeWord) (x : Start) → Follows (start_of (kind t.names i.rest)) ws x new →
+      read (all_specifiers t d b ws) i ≡ and_then (perform (a_specifier t d b x) i) (others (stays b (view_start (Some x))) new)
+  specifiers_on i b ws new x h =
+      specifiers_performs t d b ws i ∙ goes_by b ws x i (start_of (kind t.names i.rest)) h.start h.goes ∙
+      ap (λ z. and_then (perform (a_specifier t d b x) i) (others (stays b (view_start (Some x))) z)) (sym h.added)
 
   -- one more specifier, and the others
-  pub specifiers_turn : (i j : Input) (ws new : List TypeWord) (x : Start) (v : Specifier) → Follows (start_of (kind t i.rest)) ws x new → perform (a_specifier t d x) i ≡ got v j.rest j.meter →
-      Turn specifiers v (read (all_specifiers t d ws) i) (read (all_specifiers t d new) j)
-  specifiers_turn i j ws new x v h e = record { is = specifiers_on i ws new x h ∙ ap (λ o. and_then o (others new)) e }
+  pub specifiers_turn : (i j : Input) (b c : Bool) (ws new : List TypeWord) (x : Start) (v : Specifier) → Follows (start_of (kind t.names i.rest)) ws x new →
+      perform (a_specifier t d b x) i ≡ got v j.rest j.meter → c ≡ stays b (view_start (Some x)) →
+      Turn specifiers v (read (all_specifiers t d b ws) i) (read (all_specifiers t d c new) j)
+  specifiers_turn i j b c ws new x v h e same = record {
+    is = specifiers_on i b ws new x h ∙ ap (λ o. and_then o (others (stays b (view_start (Some x))) new)) e ∙ ap (λ z. mapped (specifiers v) (read (all_specifiers t d z new) j)) (sym same);
+  }
 
-  pub specifiers_fail : (i : Input) (ws new : List TypeWord) (x : Start) (e : Refusal) → Follows (start_of (kind t i.rest)) ws x new → Fails (perform (a_specifier t d x) i) e →
-      Fails (read (all_specifiers t d ws) i) e
-  specifiers_fail i ws new x e h f = subst (λ o. Fails o e) (sym (specifiers_on i ws new x h)) (then_fails (others new) f)
+  pub specifiers_fail : (i : Input) (b : Bool) (ws new : List TypeWord) (x : Start) (e : Refusal) → Follows (start_of (kind t.names i.rest)) ws x new → Fails (perform (a_specifier t d b x) i) e →
+      Fails (read (all_specifiers t d b ws) i) e
+  specifiers_fail i b ws new x e h f = subst (λ o. Fails o e) (sym (specifiers_on i b ws new x h)) (then_fails (others (stays b (view_start (Some x))) new) f)
 
   -- ---- behind the last
 
@@ -83,45 +106,49 @@ module _ (t : Types) (d : ℕ) where
   no_more true f g may = absurd cc
   no_more false f g may = refl
 
-  off : (ws : List TypeWord) (f : rules.Start) → goes_on ws f ≡ false → specifiers_by t d ws f ≡ ends_type ws
-  off ws rules.no_specifier may = refl
-  off ws (rules.a_qualifier x) may = absurd cc
-  off ws (rules.a_type_word y x) may = no_more _ _ _ may
-  off ws rules.a_type_name may = no_more _ _ _ may
-  off ws rules.a_struct_word may = no_more _ _ _ may
-  off ws rules.an_enum_word may = no_more _ _ _ may
+  off : (b : Bool) (ws : List TypeWord) (f : rules.Start) → goes_on ws f ≡ false → specifiers_by t d b ws f ≡ ends_type ws
+  off b ws rules.no_specifier may = refl
+  off b ws (rules.a_qualifier x) may = absurd cc
+  off b ws (rules.a_type_word y x) may = no_more _ _ _ may
+  off b ws rules.a_type_name may = no_more _ _ _ may
+  off b ws rules.a_struct_word may = no_more _ _ _ may
+  off b ws rules.an_enum_word may = no_more _ _ _ may
 
-  ended : (ws : List TypeWord) (i : Input) (b : Bool) → is_one_type ws ≡ b → goes_on ws (start_of (kind t i.rest)) ≡ false →
-      read (all_specifiers t d ws) i ≡ perform (cond b (done no_specifiers) stop) i
-  ended ws i b is may = specifiers_performs t d ws i ∙ ap (λ z. perform z i) (off ws (start_of (kind t i.rest)) may) ∙ ap (λ z. perform (cond z (done no_specifiers) stop) i) is
+  ended : (c : Bool) (ws : List TypeWord) (i : Input) (b : Bool) → is_one_type ws ≡ b → goes_on ws (start_of (kind t.names i.rest)) ≡ false →
+      read (all_specifiers t d c ws) i ≡ perform (cond b (done no_specifiers) stop) i
+  ended c ws i b is may = specifiers_performs t d c ws i ∙ ap (λ z. perform z i) (off c ws (start_of (kind t.names i.rest)) may) ∙ ap (λ z. perform (cond z (done no_specifiers) stop) i) is
 
-  pub specifiers_end : (i : Input) (ws : List TypeWord) → goes_on ws (start_of (kind t i.rest)) ≡ false → is_one_type ws ≡ true → read (all_specifiers t d ws) i ≡ got no_specifiers i.rest i.meter
-  specifiers_end i ws may is = ended ws i true is may
+  pub specifiers_end : (i : Input) (c : Bool) (ws : List TypeWord) → goes_on ws (start_of (kind t.names i.rest)) ≡ false → is_one_type ws ≡ true → read (all_specifiers t d c ws) i ≡ got no_specifiers i.rest i.meter
+  specifiers_end i c ws may is = ended c ws i true is may
 
-  pub specifiers_stop : (i : Input) (ws : List TypeWord) (e : Refusal) → goes_on ws (start_of (kind t i.rest)) ≡ false → is_one_type ws ≡ false → e ≡ Syntax (length i.rest) →
-      Fails (read (all_specifiers t d ws) i) e
-  specifiers_stop i ws e may is syntax =
+  pub specifiers_stop : (i : Input) (c : Bool) (ws : List TypeWord) (e : Refusal) → goes_on ws (start_of (kind t.names i.rest)) ≡ false → is_one_type ws ≡ false → e ≡ Syntax (length i.rest) →
+      Fails (read (all_specifiers t d c ws) i) e
+  specifiers_stop i c ws e may is syntax =
       let f : Fails {B = Specifiers} (refused i.rest) (Syntax (length i.rest)) = record { says = refl } in
-      subst (λ o. Fails o e) (sym (ended ws i false is may)) (subst (λ r. Fails {B = Specifiers} (refused i.rest) r) (sym syntax) f)
+      subst (λ o. Fails o e) (sym (ended c ws i false is may)) (subst (λ r. Fails {B = Specifiers} (refused i.rest) r) (sym syntax) f)
 
   -- ---- a specifier takes a token
 
-  specifier_leaves : (n : ℕ) (x : Start) (i : Input) → length (tail_of i.rest) ≤ n → Leaves n (perform (a_specifier t d x) i)
-  specifier_leaves n (s.Word x) i h = h
-  specifier_leaves n s.TypeName i h = h
-  specifier_leaves n s.Struct i h = perform_leaves n (body.call (a_struct t d) done) (next i) h
-  specifier_leaves n s.Enum i h = perform_leaves n (body.call (an_enum t d) done) (next i) h
+  naming_leaves : (n : ℕ) (b : Bool) (f : Reads Specifier) (i : Input) → ((m : Meter) → Leaves n (perform f (metered m i))) → Leaves n (perform (naming b d f) i)
+  naming_leaves n true f i h = paid_leaves n (within (added 1 (d + 1) i.meter)) i.rest _ h
+  naming_leaves n false f i h = h i.meter
 
-  tail_shorter : (ws : List TypeWord) (ts : Tokens) → goes_on ws (start_of (kind t ts)) ≡ true → length (tail_of ts) < length ts
+  specifier_leaves : (n : ℕ) (b : Bool) (x : Start) (i : Input) → length (tail_of i.rest) ≤ n → Leaves n (perform (a_specifier t d b x) i)
+  specifier_leaves n b (s.Word x) i h = naming_leaves n (is_type_word x && b) (skip (done (specifier_of x))) i (λ m. h)
+  specifier_leaves n b s.TypeName i h = naming_leaves n b (take (λ y. done (type_name y))) i (λ m. h)
+  specifier_leaves n b s.Struct i h = perform_leaves n (body.call (a_struct t d) done) (next i) h
+  specifier_leaves n b s.Enum i h = perform_leaves n (body.call (an_enum t d) done) (next i) h
+
+  tail_shorter : (ws : List TypeWord) (ts : Tokens) → goes_on ws (start_of (kind t.names ts)) ≡ true → length (tail_of ts) < length ts
   tail_shorter ws [] may =
-      let e : false ≡ true = sym (ap (λ z. goes_on ws (start_of z)) (kind_end t)) ∙ may in
+      let e : false ≡ true = sym (ap (λ z. goes_on ws (start_of z)) (kind_end t.names)) ∙ may in
       absurd cc
   tail_shorter ws (y ∷ ts) may = omega arith
 
-  pub specifiers_shorter : (i j : Input) (ws new : List TypeWord) (x : Start) (v : Specifier) → Follows (start_of (kind t i.rest)) ws x new → perform (a_specifier t d x) i ≡ got v j.rest j.meter →
+  pub specifiers_shorter : (i j : Input) (b : Bool) (ws new : List TypeWord) (x : Start) (v : Specifier) → Follows (start_of (kind t.names i.rest)) ws x new → perform (a_specifier t d b x) i ≡ got v j.rest j.meter →
       length j.rest < length i.rest
-  specifiers_shorter i j ws new x v h e =
-      let l : length j.rest ≤ length (tail_of i.rest) = subst (λ o. Leaves (length (tail_of i.rest)) o) e (specifier_leaves (length (tail_of i.rest)) x i (omega arith)) in
+  specifiers_shorter i j b ws new x v h e =
+      let l : length j.rest ≤ length (tail_of i.rest) = subst (λ o. Leaves (length (tail_of i.rest)) o) e (specifier_leaves (length (tail_of i.rest)) b x i (omega arith)) in
       omega (arith, tail_shorter ws i.rest h.goes)
 
 -- the list of all of them
@@ -137,6 +164,7 @@ pub ends_here : (here there : Kind) (old new : List TypeWord) (o : Option Start)
 ends_here here there old new o h none is = subst (λ z. Ends (start_of z) old new) is (subst (λ z. Goes (start_of here) old z new) none h)
 
 -- nothing was read
-pub specifiers_begin : (t : Types) (d : ℕ) (i : Input) (ws : List TypeWord) (xs : List Specifier) → xs ≡ [] → ws ≡ [] →
-    Loop specifiers xs (read (all_specifiers t d ws) i) (read (all_specifiers t d []) i)
-specifiers_begin t d i ws xs none first = subst (λ z. Loop specifiers xs (read (all_specifiers t d z) i) (read (all_specifiers t d []) i)) (sym first) (loop_begins xs (read (all_specifiers t d []) i) none)
+pub specifiers_begin : (t : Types) (d : ℕ) (b : Bool) (i : Input) (ws : List TypeWord) (xs : List Specifier) → xs ≡ [] → ws ≡ [] →
+    Loop specifiers xs (read (all_specifiers t d b ws) i) (read (all_specifiers t d b []) i)
+specifiers_begin t d b i ws xs none first =
+    subst (λ z. Loop specifiers xs (read (all_specifiers t d b z) i) (read (all_specifiers t d b []) i)) (sym first) (loop_begins xs (read (all_specifiers t d b []) i) none)

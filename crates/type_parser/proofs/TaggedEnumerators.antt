@@ -10,7 +10,7 @@ use Rattle.c_grammar.specs.Body as body
 use Rattle.c_grammar.specs.Gauge.{Meter, within, added}
 use Rattle.c_grammar.specs.Input.{Input, next, metered}
 use Rattle.c_grammar.specs.Reading.{read}
-use Rattle.c_grammar.specs.Rules.{Types, rule, all_enumerators, more_enumerators, enumerator_by, more_enumerators_by, next_enumerator_by}
+use Rattle.c_grammar.specs.Rules.{Types, rule, all_enumerators, more_enumerators, enumerator_by, more_enumerators_by, next_enumerator_by, barred}
 use Rattle.expression_parser.specs.declared.refusal.Refusal.{Refusal}
 use Rattle.expression_parser.specs.Gives.{Fails}
 use Rattle.expression_parser.specs.Lists.{mapped, before}
@@ -46,7 +46,7 @@ module _ (t : Types) (d : ℕ) where
   behind_by : (x : Name × Option Expression) (y : Kind) (j : Input) →
       and_then (perform (more_enumerators_by t d y) j) (λ es us m. got (with_enumerator x es) us m) ≡ and_then (mapped (λ y. y) (perform (behind_enumerator_by t d x y) j)) others
   behind_by x k.CloseBrace j = refl
-  behind_by x k.Comma j = next_on x (kind t (next j).rest) (next j)
+  behind_by x k.Comma j = next_on x (kind (barred t) (next j).rest) (next j)
   behind_by x _ j = refl
 
   behind_on : {x : Name × Option Expression} {j : Input} → Joins (λ y. y) others (body.call (more_enumerators t d) (λ es. done (with_enumerator x es))) (look [] (behind_enumerator_by t d x)) j
@@ -62,7 +62,7 @@ module _ (t : Types) (d : ℕ) where
 
   enumerators_on : (i : Input) → read (all_enumerators t d) i ≡ and_then (perform (one_enumerator t d) i) others
   enumerators_on i =
-      let h : Joins (λ y. y) others (rule (all_enumerators t d)) (one_enumerator t d) i = join_name t (λ n. name_on) in
+      let h : Joins (λ y. y) others (rule (all_enumerators t d)) (one_enumerator t d) i = join_name (barred t) (λ n. name_on) in
       enumerators_performs t d i ∙ h.is ∙ ap (λ o. and_then o others) (same_mapped (perform (one_enumerator t d) i))
 
   -- one enumerator more
@@ -78,7 +78,7 @@ module _ (t : Types) (d : ℕ) where
   enumerators_fail i e h = subst (λ o. Fails o e) (sym (enumerators_on i)) (then_fails others h)
 
   pub enumerators_shorter : (i j : Input) (x : OneEnumerator) → perform (one_enumerator t d) i ≡ got x j.rest j.meter → length j.rest < length i.rest
-  enumerators_shorter i j x e = subst (λ o. Under (length i.rest) o) e (name_under (length i.rest) t (λ n. look [] (valued_by t d n)) i (omega arith))
+  enumerators_shorter i j x e = subst (λ o. Under (length i.rest) o) e (name_under (length i.rest) (barred t) (λ n. look [] (valued_by t d n)) i (omega arith))
 
 -- the list of all of them
 pub enumerators_none : (xs : List (Name × Option Expression)) (b : Bool) → before with_enumerator xs (no_enumerators, b) ≡ (enumerators_of xs, b)

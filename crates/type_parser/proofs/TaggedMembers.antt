@@ -49,9 +49,9 @@ module _ (t : Types) (d : ℕ) where
   behind_by x k.CloseBrace j = refl
   behind_by x y j = begins_on x (begins_type y) j
 
-  behind_on : {x : Specifiers × Declarators} {j : Input} → Joins (λ y. y) others (body.call (more_members t d) (λ ms. done (with_member x ms))) (look t (behind_member_by t d x)) j
+  behind_on : {x : Specifiers × Declarators} {j : Input} → Joins (λ y. y) others (body.call (more_members t d) (λ ms. done (with_member x ms))) (look t.names (behind_member_by t d x)) j
   behind_on {x = x} {j = j} =
-      record { is = ap (λ o. and_then o (λ ms us m. got (with_member x ms) us m)) (more_members_performs t d j) ∙ behind_by x (kind t j.rest) j }
+      record { is = ap (λ o. and_then o (λ ms us m. got (with_member x ms) us m)) (more_members_performs t d j) ∙ behind_by x (kind t.names j.rest) j }
 
   members_on : (i : Input) → read (all_members t d) i ≡ and_then (perform (one_member t d) i) others
   members_on i =
@@ -60,13 +60,13 @@ module _ (t : Types) (d : ℕ) where
       members_performs t d i ∙ h.is ∙ ap (λ o. and_then o others) (same_mapped (perform (one_member t d) i))
 
   -- its specifiers, its declarators and its semicolon
-  pub member_parts : (i j l n : Input) (ws : Specifiers) (cs : Declarators) → read (all_specifiers t d []) i ≡ got ws j.rest j.meter → read (all_declarators t d) j ≡ got cs l.rest l.meter →
-      same_kind (kind [] l.rest) k.Semicolon ≡ true → n ≡ next l → perform (one_member t d) i ≡ perform (look t (behind_member_by t d (ws, cs))) n
+  pub member_parts : (i j l n : Input) (ws : Specifiers) (cs : Declarators) → read (all_specifiers t d false []) i ≡ got ws j.rest j.meter → read (all_declarators t d) j ≡ got cs l.rest l.meter →
+      same_kind (kind [] l.rest) k.Semicolon ≡ true → n ≡ next l → perform (one_member t d) i ≡ perform (look t.names (behind_member_by t d (ws, cs))) n
   member_parts i j l n ws cs first second is go =
-      ap (λ o. and_then o (λ v us m. and_then (read (all_declarators t d) (at us m)) (λ w vs q. perform (expect k.Semicolon (look t (behind_member_by t d (v, w)))) (at vs q)))) first
-      ∙ ap (λ o. and_then o (λ w vs q. perform (expect k.Semicolon (look t (behind_member_by t d (ws, w)))) (at vs q))) second
-      ∙ ap (λ b. perform (if b then take (λ z. look t (behind_member_by t d (ws, cs))) else stop) l) is
-      ∙ ap (λ z. perform (look t (behind_member_by t d (ws, cs))) z) (sym go)
+      ap (λ o. and_then o (λ v us m. and_then (read (all_declarators t d) (at us m)) (λ w vs q. perform (expect k.Semicolon (look t.names (behind_member_by t d (v, w)))) (at vs q)))) first
+      ∙ ap (λ o. and_then o (λ w vs q. perform (expect k.Semicolon (look t.names (behind_member_by t d (ws, w)))) (at vs q))) second
+      ∙ ap (λ b. perform (if b then take (λ z. look t.names (behind_member_by t d (ws, cs))) else stop) l) is
+      ∙ ap (λ z. perform (look t.names (behind_member_by t d (ws, cs))) z) (sym go)
 
   -- one member more
   pub members_turn : (i j : Input) (x : Specifiers × Declarators) → perform (one_member t d) i ≡ got (x, false) j.rest j.meter → Turn with_member x (read (all_members t d) i) (read (all_members t d) j)
@@ -81,8 +81,8 @@ module _ (t : Types) (d : ℕ) where
 
   member_under : (n : ℕ) (i : Input) → length i.rest ≤ n → Under n (perform (one_member t d) i)
   member_under n i less =
-      then_under n (read (all_specifiers t d []) i) _ (read_leaves n (all_specifiers t d []) i less)
-      (λ ws us m p. then_under n (read (all_declarators t d) (at us m)) _ (read_leaves n (all_declarators t d) (at us m) p) (λ cs vs q r. expect_under n k.Semicolon (look t (behind_member_by t d (ws, cs))) (at vs q) (λ e. absurd cc) r))
+      then_under n (read (all_specifiers t d false []) i) _ (read_leaves n (all_specifiers t d false []) i less)
+      (λ ws us m p. then_under n (read (all_declarators t d) (at us m)) _ (read_leaves n (all_declarators t d) (at us m) p) (λ cs vs q r. expect_under n k.Semicolon (look t.names (behind_member_by t d (ws, cs))) (at vs q) (λ e. absurd cc) r))
 
   pub members_shorter : (i j : Input) (x : OneMember) → perform (one_member t d) i ≡ got x j.rest j.meter → length j.rest < length i.rest
   members_shorter i j x e = subst (λ o. Under (length i.rest) o) e (member_under (length i.rest) i (omega arith))

@@ -1,13 +1,13 @@
 -- Parts of structs and enums take a token.
-use Rattle.std.proofs.Common.{◌≡◌, ◌≢◌, ◌<◌, ◌≤◌, ℕ, Bool, true, false, cond, [], ◌∷◌, length, refl, sym, ◌∙◌, arith}
+use Rattle.std.proofs.Common.{◌≡◌, ◌≢◌, ◌<◌, ◌≤◌, ℕ, Bool, true, false, cond, List, [], ◌∷◌, length, refl, sym, ◌∙◌, arith}
 use Rattle.c_tree.specs.Tree.{Name}
 use Rattle.c_tree.specs.Marks.{Tokens}
 use Rattle.c_grammar.specs.declared.kind.Kind.{Kind}
 use Rattle.c_grammar.specs.declared.kind.Kind.TheVariants as k
 use Rattle.c_grammar.specs.Kind.{kind, same_kind, tail_of, head_text}
-use Rattle.c_grammar.specs.Body.{take, stop, Outcome, got, refused, exceeded, and_then, Reader}
+use Rattle.c_grammar.specs.Body.{take, stop, Outcome, got, refused, exceeded, and_then, Reader, look}
 use Rattle.c_grammar.specs.Input.{Input, next}
-use Rattle.c_grammar.specs.Rules.{Reads, Types, expect, a_name, named_by}
+use Rattle.c_grammar.specs.Rules.{Reads, expect, named_by}
 use Rattle.c_grammar.proofs.KindLemmas.{kind_end, same_true}
 use Rattle.expression_parser.specs.Performing.{perform}
 use Rattle.expression_parser.proofs.Joining.{perform_leaves}
@@ -30,9 +30,9 @@ leaves_under m n (refused ts) less h = tt
 leaves_under m n (exceeded ts) less h = tt
 
 -- a token of a kind of its own is gone once it is taken
-pub taken_shorter : (t : Types) (ts : Tokens) (x : Kind) → kind t ts ≡ x → x ≢ k.Nothing → length (tail_of ts) < length ts
-taken_shorter t [] x is some = absurd (some (sym is ∙ kind_end t))
-taken_shorter t (y ∷ ts) x is some = omega arith
+pub taken_shorter : (types : List Name) (ts : Tokens) (x : Kind) → kind types ts ≡ x → x ≢ k.Nothing → length (tail_of ts) < length ts
+taken_shorter types [] x is some = absurd (some (sym is ∙ kind_end types))
+taken_shorter types (y ∷ ts) x is some = omega arith
 
 behind_under : {A : Type 0} (n : ℕ) (b : Reads A) (i : Input) → length (tail_of i.rest) < n → Under n (perform b (next i))
 behind_under n b i less = leaves_under (length (tail_of i.rest)) n (perform b (next i)) less (perform_leaves (length (tail_of i.rest)) b (next i) (omega arith))
@@ -49,5 +49,5 @@ named_under : {A : Type 0} (n : ℕ) (f : Name → Reads A) (i : Input) (x : Kin
 named_under n f i k.Name h = behind_under n (f (head_text i.rest)) i (h refl)
 named_under n f i _ h = tt
 
-pub name_under : {A : Type 0} (n : ℕ) (t : Types) (f : Name → Reads A) (i : Input) → length i.rest ≤ n → Under n (perform (a_name t f) i)
-name_under n t f i less = named_under n f i (kind t i.rest) (λ is. let h = taken_shorter t i.rest k.Name is (λ e. absurd cc) in omega (arith, h, less))
+pub name_under : {A : Type 0} (n : ℕ) (types : List Name) (f : Name → Reads A) (i : Input) → length i.rest ≤ n → Under n (perform (look types (named_by [] f)) i)
+name_under n types f i less = named_under n f i (kind types i.rest) (λ is. let h = taken_shorter types i.rest k.Name is (λ e. absurd cc) in omega (arith, h, less))

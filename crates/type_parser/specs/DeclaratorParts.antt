@@ -1,11 +1,11 @@
 -- Parts of the rules of declarators that are functions of their own.
-use Rattle.std.specs.Prelude.{ℕ, List, [], ◌++◌, Option, Some, None}
+use Rattle.std.specs.Prelude.{ℕ, true, Option, Some, None}
 use Rattle.c_tree.specs.Tree.{Name, Quals, Stars, Expression, Sizes, open_size, size, DeclaratorTree, BareTree, bare_pointer}
 use Rattle.c_grammar.specs.declared.kind.Kind.{Kind}
 use Rattle.c_grammar.specs.declared.kind.Kind.TheVariants as k
 use Rattle.c_grammar.specs.Body as body
 use Rattle.c_grammar.specs.Body.{done, look}
-use Rattle.c_grammar.specs.Rules.{Types, Reads, skip, expect, named_by, pointed, all_quals, all_parameters, an_expression}
+use Rattle.c_grammar.specs.Rules.{Types, Reads, skip, expect, a_new_name, inside, pointed, all_quals, all_parameters, an_expression}
 
 -- a star, and its qualifiers
 abbrev pub star : Reads Quals
@@ -23,11 +23,18 @@ bracketed_by t d _ = body.call (an_expression t d 3 1) (λ x. expect k.CloseBrac
 
 -- a size in its brackets, or the brackets alone
 abbrev pub bracketed : Types → ℕ → Reads (Option Expression)
-bracketed t d = skip (look t (bracketed_by t d))
+bracketed t d = skip (look t.names (bracketed_by t d))
 
--- behind the bracket of a pointer to a function, whose name is none of these
-abbrev pub pointer_from : Types → ℕ → List Name → Stars → Reads DeclaratorTree
-pointer_from t d ns ss = expect k.Star (body.call all_quals (λ qs. look (ns ++ t) (named_by [] (pointed t d ss qs))))
+-- behind the bracket of a pointer to a function
+abbrev pub pointer_from : Types → ℕ → Stars → Reads DeclaratorTree
+pointer_from t d ss = expect k.Star (body.call all_quals (λ qs. a_new_name t (pointed t d ss qs)))
+
+-- the same in the declarator of a type
+abbrev pub type_pointed : Types → ℕ → Stars → Quals → Name → Reads DeclaratorTree
+type_pointed t d ss qs n = pointed (inside true n t) d ss qs n
+
+abbrev pub type_pointer_from : Types → ℕ → Stars → Reads DeclaratorTree
+type_pointer_from t d ss = expect k.Star (body.call all_quals (λ qs. a_new_name t (type_pointed t d ss qs)))
 
 -- the same without a name
 abbrev pub bare_pointer_from : Types → ℕ → Stars → Reads BareTree

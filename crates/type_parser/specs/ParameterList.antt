@@ -5,7 +5,7 @@ use Rattle.c_tree.specs.View.{parameters_of}
 use Rattle.c_grammar.specs.declared.kind.Kind.TheVariants as k
 use Rattle.c_grammar.specs.Body.{done, look, scope}
 use Rattle.c_grammar.specs.Body as body
-use Rattle.c_grammar.specs.Rules.{Types, Reads, Parameter, skip, expect, a_parameter, all_quals, parameter_pointer_by, listed_parameters}
+use Rattle.c_grammar.specs.Rules.{Types, Reads, Parameter, skip, expect, barred, a_parameter, all_quals, parameter_pointer_by, listed_parameters}
 
 -- the word void
 abbrev pub is_void_word : Specifier → Bool
@@ -48,4 +48,4 @@ another_parameter t d = skip (scope d (a_parameter t d) done)
 
 -- behind the bracket of a pointer to a function
 abbrev pub inner_by : Types → ℕ → Specifiers → Stars → Reads Parameter
-inner_by t d ws ss = expect k.Star (body.call all_quals (λ qs. look t (parameter_pointer_by t d ws ss qs)))
+inner_by t d ws ss = expect k.Star (body.call all_quals (λ qs. look (barred t) (parameter_pointer_by t d ws ss qs)))

@@ -5,7 +5,7 @@ use Rattle.c_tree.specs.TypeWords as words
 use Rattle.c_grammar.specs.Body.{done, take}
 use Rattle.c_grammar.specs.Body as body
 use Rattle.c_grammar.specs.Rules as rules
-use Rattle.c_grammar.specs.Rules.{Types, Reads, skip, a_struct, an_enum}
+use Rattle.c_grammar.specs.Rules.{Types, Reads, skip, naming, a_struct, an_enum}
 use Rattle.type_parser.specs.declared.words.Word.{Word}
 use Rattle.type_parser.specs.declared.words.Word.TheVariants as w
 use Rattle.type_parser.specs.declared.words.TypeWord.{TypeWord}
@@ -108,9 +108,20 @@ abbrev pub Goes : rules.Start → List words.TypeWord → Option Start → List 
 Goes f old (Some x) new = Follows f old x new
 Goes f old None new = Ends f old new
 
+-- a keyword that is no qualifier
+abbrev pub is_type_word : Word → Bool
+is_type_word w.Const = false
+is_type_word w.Volatile = false
+is_type_word _ = true
+
+-- behind a qualifier it is still to be counted that a name has to follow
+abbrev pub stays : Bool → rules.Start → Bool
+stays b (rules.a_qualifier x) = b
+stays b _ = false
+
 -- one specifier
-abbrev pub a_specifier : Types → ℕ → Start → Reads c.Specifier
-a_specifier t d (s.Word x) = skip (done (specifier_of x))
-a_specifier t d s.TypeName = take (λ n. done (c.type_name n))
-a_specifier t d s.Struct = skip (body.call (a_struct t d) done)
-a_specifier t d s.Enum = skip (body.call (an_enum t d) done)
+abbrev pub a_specifier : Types → ℕ → Bool → Start → Reads c.Specifier
+a_specifier t d b (s.Word x) = naming (is_type_word x && b) d (skip (done (specifier_of x)))
+a_specifier t d b s.TypeName = naming b d (take (λ n. done (c.type_name n)))
+a_specifier t d b s.Struct = skip (body.call (a_struct t d) done)
+a_specifier t d b s.Enum = skip (body.call (an_enum t d) done)

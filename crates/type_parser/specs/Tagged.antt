@@ -5,7 +5,7 @@ use Rattle.c_grammar.specs.declared.kind.Kind.{Kind}
 use Rattle.c_grammar.specs.declared.kind.Kind.TheVariants as k
 use Rattle.c_grammar.specs.Body.{done, stop, look, spend}
 use Rattle.c_grammar.specs.Body as body
-use Rattle.c_grammar.specs.Rules.{Types, Reads, skip, expect, a_name, begins_type, an_expression, all_specifiers, all_members, all_declarators, all_enumerators, a_declarator}
+use Rattle.c_grammar.specs.Rules.{Types, Reads, skip, expect, barred, a_new_name, begins_type, an_expression, all_specifiers, all_members, all_declarators, all_enumerators, a_declarator}
 
 -- the members in their braces, of a struct with this tag or with none
 abbrev pub struct_in : Types → ℕ → Option Name → Reads Specifier
@@ -27,7 +27,7 @@ behind_member_by t d m k.CloseBrace = skip (done (m, true))
 behind_member_by t d m kind = if begins_type kind then spend 1 (d + 1) (done (m, false)) else stop
 
 abbrev pub one_member : Types → ℕ → Reads OneMember
-one_member t d = body.call (all_specifiers t d []) (λ ws. body.call (all_declarators t d) (λ cs. expect k.Semicolon (look t (behind_member_by t d (ws, cs)))))
+one_member t d = body.call (all_specifiers t d false []) (λ ws. body.call (all_declarators t d) (λ cs. expect k.Semicolon (look t.names (behind_member_by t d (ws, cs)))))
 
 -- a member before the others
 abbrev pub with_member : Specifiers × Declarators → Members → Members
@@ -35,7 +35,7 @@ with_member x ms = member x.0 x.1 ms
 
 -- one more declarator of a member, behind a comma
 abbrev pub another_declarator : Types → ℕ → Reads DeclaratorTree
-another_declarator t d = spend 1 (d + 1) (skip (body.call (a_declarator t (d + 1) false []) done))
+another_declarator t d = spend 1 (d + 1) (skip (body.call (a_declarator t (d + 1) false false) done))
 
 -- ---- enumerators
 
@@ -52,7 +52,7 @@ next_by t d e _ = stop
 -- behind it
 abbrev pub behind_enumerator_by : Types → ℕ → Name × Option Expression → Kind → Reads OneEnumerator
 behind_enumerator_by t d e k.CloseBrace = skip (done (e, Some false))
-behind_enumerator_by t d e k.Comma = skip (look t (next_by t d e))
+behind_enumerator_by t d e k.Comma = skip (look (barred t) (next_by t d e))
 behind_enumerator_by t d e _ = stop
 
 -- behind its name
@@ -61,7 +61,7 @@ valued_by t d n k.Assign = spend 1 (d + 2) (skip (body.call (an_expression t (d 
 valued_by t d n _ = look [] (behind_enumerator_by t d (n, None))
 
 abbrev pub one_enumerator : Types → ℕ → Reads OneEnumerator
-one_enumerator t d = a_name t (λ n. look [] (valued_by t d n))
+one_enumerator t d = a_new_name t (λ n. look [] (valued_by t d n))
 
 -- one more enumerator before the others, and whether a comma stands behind the last
 abbrev pub with_enumerator : Name × Option Expression → Enumerators × Bool → Enumerators × Bool

@@ -1,12 +1,11 @@
 //! Declarators.
 
-ghost use Rattle.std.specs.Prelude.{◌≡◌, ◌≤◌, [], ◌++◌, map, option_map};
+ghost use Rattle.std.specs.Prelude.{◌≤◌, [], false, map, option_map};
 ghost use Rattle.c_tree.specs.View.{view_expression, view_declarator, view_bare, sizes_of};
 ghost use Rattle.c_grammar.specs.Body.{look};
-ghost use Rattle.c_grammar.specs.Kind as spec;
 ghost use Rattle.c_grammar.specs.Performing.{perform};
 ghost use Rattle.c_grammar.specs.Reading.{read};
-ghost use Rattle.c_grammar.specs.Rules.{all_sizes, at_most_one_size, a_declarator, a_bare, declared_by, named_by, pointed};
+ghost use Rattle.c_grammar.specs.Rules.{all_sizes, at_most_one_size, a_declarator, a_bare, a_new_name, declared_by, pointed};
 ghost use Rattle.expression_parser.specs.Gives.{Gives};
 ghost use Rattle.expression_parser.specs.Nests.{Nests};
 ghost use Rattle.type_parser.specs.DeclaratorParts.{bracketed, pointer_from, bare_pointer_from};
@@ -15,34 +14,16 @@ use crate::pointer::{quals, stars};
 use base_core::Lexeme;
 use c_grammar::{Cursor, Kind, same_kind};
 use c_tree::{Bare, Declarator, Expr, Quals, Stars};
-use expression_parser::grammar::{Found, Grammar, Nested};
+use expression_parser::grammar::{Found, Grammar, Nested, Types};
 use expression_parser::refusal::Refusal;
-use expression_parser::steps::{expect, kind, refused, word};
-use program_scope::Types;
+use expression_parser::steps::{expect, kind, new_kind, refused, word};
 use sqlite_items::Items;
 use std::alloc::Global;
 
-/// The kind of the next token, where the names that are taken are types too.
-#[tactic(auto, using(c_grammar::proofs::KindLemmas::kind_beside))]
-fn kind_beside(types: &Types, taken: &Types, cursor: &Cursor<'_>) -> Kind
-    ensures { result ≡ spec.kind (taken.now ++ types.now) cursor.now.rest }
-{
-    let kind = cursor.kind();
-    if same_kind(kind, Kind::Name)
-        && (taken.contains(cursor.lexeme()) || types.contains(cursor.lexeme()))
-    {
-        Kind::TypeName
-    } else {
-        kind
-    }
-}
-
 /// A size in its brackets, or the brackets alone.
-fn bracketed<F: Fn(Global, &Types, &mut Cursor<'_>, usize, u32, Nested) -> Result<Found, Refusal>>(
-    grammar: &Grammar<'_, F>,
-    cursor: &mut Cursor<'_>,
-    d: u32,
-) -> Result<Option<Expr>, Refusal>
+fn bracketed<
+    F: Fn(Global, &Types<'_>, &mut Cursor<'_>, usize, u32, Nested) -> Result<Found, Refusal>,
+>(grammar: &Grammar<'_, F>, cursor: &mut Cursor<'_>, d: u32) -> Result<Option<Expr>, Refusal>
     requires nests { Nests grammar.now.budget (F.pre grammar.now.read) (F.post grammar.now.read) }
     requires small { d ≤ 1001 }
     ensures { Gives (option_map view_expression) (perform (bracketed grammar.now.types.now d) cursor.old) result cursor.new }
@@ -62,11 +43,9 @@ fn bracketed<F: Fn(Global, &Types, &mut Cursor<'_>, usize, u32, Nested) -> Resul
 }
 
 /// The sizes of an array.
-pub fn sizes<F: Fn(Global, &Types, &mut Cursor<'_>, usize, u32, Nested) -> Result<Found, Refusal>>(
-    grammar: &Grammar<'_, F>,
-    cursor: &mut Cursor<'_>,
-    d: u32,
-) -> Result<Items<Option<Expr>>, Refusal>
+pub fn sizes<
+    F: Fn(Global, &Types<'_>, &mut Cursor<'_>, usize, u32, Nested) -> Result<Found, Refusal>,
+>(grammar: &Grammar<'_, F>, cursor: &mut Cursor<'_>, d: u32) -> Result<Items<Option<Expr>>, Refusal>
     requires nests { Nests grammar.now.budget (F.pre grammar.now.read) (F.post grammar.now.read) }
     requires small { d ≤ 1001 }
     ensures { Gives (λ xs. sizes_of (map (option_map view_expression) xs)) (read (all_sizes grammar.now.types.now d) cursor.old) result cursor.new }
@@ -81,7 +60,7 @@ pub fn sizes<F: Fn(Global, &Types, &mut Cursor<'_>, usize, u32, Nested) -> Resul
 /// The size of an array of pointers to functions, if there is one.
 #[tactic(auto, using(crate::proofs::DeclaratorLists::one_begins, crate::proofs::DeclaratorLists::one_size_of))]
 pub fn one_size<
-    F: Fn(Global, &Types, &mut Cursor<'_>, usize, u32, Nested) -> Result<Found, Refusal>,
+    F: Fn(Global, &Types<'_>, &mut Cursor<'_>, usize, u32, Nested) -> Result<Found, Refusal>,
 >(grammar: &Grammar<'_, F>, cursor: &mut Cursor<'_>, d: u32) -> Result<Items<Option<Expr>>, Refusal>
     requires nests { Nests grammar.now.budget (F.pre grammar.now.read) (F.post grammar.now.read) }
     requires small { d ≤ 1001 }
@@ -100,7 +79,9 @@ pub fn one_size<
 
 /// Behind the stars and the name of a declarator.
 #[tactic(auto, using(c_tree::proofs::ViewLemmas::view_Declarator_Plain, c_tree::proofs::ViewLemmas::view_Declarator_Array, c_tree::proofs::ViewLemmas::view_Declarator_Function))]
-fn declared<F: Fn(Global, &Types, &mut Cursor<'_>, usize, u32, Nested) -> Result<Found, Refusal>>(
+pub fn declared<
+    F: Fn(Global, &Types<'_>, &mut Cursor<'_>, usize, u32, Nested) -> Result<Found, Refusal>,
+>(
     grammar: &Grammar<'_, F>,
     cursor: &mut Cursor<'_>,
     d: u32,
@@ -132,7 +113,9 @@ fn declared<F: Fn(Global, &Types, &mut Cursor<'_>, usize, u32, Nested) -> Result
 
 /// Behind the name of a pointer to a function.
 #[tactic(auto, using(c_tree::proofs::ViewLemmas::view_Declarator_Pointer))]
-fn pointed<F: Fn(Global, &Types, &mut Cursor<'_>, usize, u32, Nested) -> Result<Found, Refusal>>(
+pub fn pointed<
+    F: Fn(Global, &Types<'_>, &mut Cursor<'_>, usize, u32, Nested) -> Result<Found, Refusal>,
+>(
     grammar: &Grammar<'_, F>,
     cursor: &mut Cursor<'_>,
     d: u32,
@@ -151,20 +134,19 @@ fn pointed<F: Fn(Global, &Types, &mut Cursor<'_>, usize, u32, Nested) -> Result<
     Ok(Declarator::Pointer(stars, quals, name, sizes, params))
 }
 
-/// Behind the star of a pointer to a function and its qualifiers: its name, which is none of these, and what follows.
-fn named<F: Fn(Global, &Types, &mut Cursor<'_>, usize, u32, Nested) -> Result<Found, Refusal>>(
+/// Behind the star of a pointer to a function and its qualifiers: its name, and what follows.
+fn named<F: Fn(Global, &Types<'_>, &mut Cursor<'_>, usize, u32, Nested) -> Result<Found, Refusal>>(
     grammar: &Grammar<'_, F>,
     cursor: &mut Cursor<'_>,
     d: u32,
-    taken: &Types,
     stars: Stars,
     quals: Quals,
 ) -> Result<Declarator, Refusal>
     requires nests { Nests grammar.now.budget (F.pre grammar.now.read) (F.post grammar.now.read) }
     requires small { d ≤ 1001 }
-    ensures { Gives view_declarator (perform (look (taken.now ++ grammar.now.types.now) (named_by [] (pointed grammar.now.types.now d stars quals))) cursor.old) result cursor.new }
+    ensures { Gives view_declarator (perform (a_new_name grammar.now.types.now (pointed grammar.now.types.now d stars quals)) cursor.old) result cursor.new }
 {
-    match kind_beside(grammar.types, taken, cursor) {
+    match new_kind(grammar.types, cursor) {
         Kind::Name => {
             let name = word(grammar.alloc, cursor)?;
             pointed(grammar, cursor, d, stars, quals, name)
@@ -174,46 +156,46 @@ fn named<F: Fn(Global, &Types, &mut Cursor<'_>, usize, u32, Nested) -> Result<Fo
 }
 
 /// Behind the bracket of a pointer to a function.
-fn pointer<F: Fn(Global, &Types, &mut Cursor<'_>, usize, u32, Nested) -> Result<Found, Refusal>>(
+pub fn pointer<
+    F: Fn(Global, &Types<'_>, &mut Cursor<'_>, usize, u32, Nested) -> Result<Found, Refusal>,
+>(
     grammar: &Grammar<'_, F>,
     cursor: &mut Cursor<'_>,
     d: u32,
-    taken: &Types,
     stars: Stars,
 ) -> Result<Declarator, Refusal>
     requires nests { Nests grammar.now.budget (F.pre grammar.now.read) (F.post grammar.now.read) }
     requires small { d ≤ 1001 }
-    ensures { Gives view_declarator (perform (pointer_from grammar.now.types.now d taken.now stars) cursor.old) result cursor.new }
+    ensures { Gives view_declarator (perform (pointer_from grammar.now.types.now d stars) cursor.old) result cursor.new }
 {
     expect(cursor, Kind::Star)?;
     let quals = quals(grammar.alloc, cursor)?;
-    named(grammar, cursor, d, taken, stars, quals)
+    named(grammar, cursor, d, stars, quals)
 }
 
-/// A declarator, perhaps of a function, of a name that is none of these.
+/// A declarator, perhaps of a function, and not of a type.
 #[tactic(auto, using(expression_parser::proofs::Opens::declarator_performs))]
 pub fn declarator<
-    F: Fn(Global, &Types, &mut Cursor<'_>, usize, u32, Nested) -> Result<Found, Refusal>,
+    F: Fn(Global, &Types<'_>, &mut Cursor<'_>, usize, u32, Nested) -> Result<Found, Refusal>,
 >(
     grammar: &Grammar<'_, F>,
     cursor: &mut Cursor<'_>,
     d: u32,
     may_be_function: bool,
-    taken: &Types,
 ) -> Result<Declarator, Refusal>
     requires nests { Nests grammar.now.budget (F.pre grammar.now.read) (F.post grammar.now.read) }
     requires small { d ≤ 1001 }
-    ensures { Gives view_declarator (read (a_declarator grammar.now.types.now d may_be_function taken.now) cursor.old) result cursor.new }
+    ensures { Gives view_declarator (read (a_declarator grammar.now.types.now d may_be_function false) cursor.old) result cursor.new }
 {
     let stars = stars(grammar.alloc, cursor)?;
-    match kind_beside(grammar.types, taken, cursor) {
+    match new_kind(grammar.types, cursor) {
         Kind::Name => {
             let name = word(grammar.alloc, cursor)?;
             declared(grammar, cursor, d, may_be_function, stars, name)
         }
         Kind::OpenParen => {
             cursor.take();
-            pointer(grammar, cursor, d, taken, stars)
+            pointer(grammar, cursor, d, stars)
         }
         _ => Err(refused(cursor)),
     }
@@ -222,7 +204,7 @@ pub fn declarator<
 /// Behind the bracket of a pointer to a function without a name.
 #[tactic(auto, using(c_tree::proofs::ViewLemmas::view_Bare_Pointer))]
 fn bare_pointer<
-    F: Fn(Global, &Types, &mut Cursor<'_>, usize, u32, Nested) -> Result<Found, Refusal>,
+    F: Fn(Global, &Types<'_>, &mut Cursor<'_>, usize, u32, Nested) -> Result<Found, Refusal>,
 >(grammar: &Grammar<'_, F>, cursor: &mut Cursor<'_>, d: u32, stars: Stars) -> Result<Bare, Refusal>
     requires nests { Nests grammar.now.budget (F.pre grammar.now.read) (F.post grammar.now.read) }
     requires small { d ≤ 1001 }
@@ -238,11 +220,9 @@ fn bare_pointer<
 
 /// The stars of a type without a name, or a pointer to a function.
 #[tactic(auto, using(expression_parser::proofs::Opens::bare_performs, c_tree::proofs::ViewLemmas::view_Bare_Plain))]
-pub fn bare<F: Fn(Global, &Types, &mut Cursor<'_>, usize, u32, Nested) -> Result<Found, Refusal>>(
-    grammar: &Grammar<'_, F>,
-    cursor: &mut Cursor<'_>,
-    d: u32,
-) -> Result<Bare, Refusal>
+pub fn bare<
+    F: Fn(Global, &Types<'_>, &mut Cursor<'_>, usize, u32, Nested) -> Result<Found, Refusal>,
+>(grammar: &Grammar<'_, F>, cursor: &mut Cursor<'_>, d: u32) -> Result<Bare, Refusal>
     requires nests { Nests grammar.now.budget (F.pre grammar.now.read) (F.post grammar.now.read) }
     requires small { d ≤ 1001 }
     ensures { Gives view_bare (read (a_bare grammar.now.types.now d) cursor.old) result cursor.new }

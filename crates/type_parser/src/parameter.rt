@@ -18,10 +18,9 @@ use crate::pointer::{quals, stars};
 use crate::specifier::specifiers;
 use c_grammar::{Cursor, Kind, same_kind};
 use c_tree::{Bare, Declarator, ParamForm, Parameter, Params, Quals, SpecWord, Specs, Stars};
-use expression_parser::grammar::{Found, Grammar, Nested};
+use expression_parser::grammar::{Found, Grammar, Nested, Types};
 use expression_parser::refusal::Refusal;
-use expression_parser::steps::{expect, kind, refused, rise, spend, word};
-use program_scope::Types;
+use expression_parser::steps::{expect, kind, new_kind, refused, rise, spend, word};
 use sqlite_items::Items;
 use std::alloc::Global;
 
@@ -115,7 +114,7 @@ fn no_parameters(alloc: Global) -> Params
 /// The parameters of a function, with the closing bracket.
 #[tactic(auto, using(expression_parser::proofs::Opens::parameters_performs))]
 pub fn all_parameters<
-    F: Fn(Global, &Types, &mut Cursor<'_>, usize, u32, Nested) -> Result<Found, Refusal>,
+    F: Fn(Global, &Types<'_>, &mut Cursor<'_>, usize, u32, Nested) -> Result<Found, Refusal>,
 >(grammar: &Grammar<'_, F>, cursor: &mut Cursor<'_>, d: u32) -> Result<Params, Refusal>
     requires nests { Nests grammar.now.budget (F.pre grammar.now.read) (F.post grammar.now.read) }
     requires small { d ≤ 1001 }
@@ -136,7 +135,7 @@ pub fn all_parameters<
 /// At least one parameter, with the closing bracket.
 #[tactic(auto, using(crate::proofs::ParameterLists::parameters_begin))]
 fn some_parameters<
-    F: Fn(Global, &Types, &mut Cursor<'_>, usize, u32, Nested) -> Result<Found, Refusal>,
+    F: Fn(Global, &Types<'_>, &mut Cursor<'_>, usize, u32, Nested) -> Result<Found, Refusal>,
 >(grammar: &Grammar<'_, F>, cursor: &mut Cursor<'_>, d: u32) -> Result<Items<Parameter>, Refusal>
     requires nests { Nests grammar.now.budget (F.pre grammar.now.read) (F.post grammar.now.read) }
     requires small { d ≤ 1001 }
@@ -149,7 +148,7 @@ fn some_parameters<
 
 /// Parameters, behind the first, with the closing bracket.
 fn more_parameters<
-    F: Fn(Global, &Types, &mut Cursor<'_>, usize, u32, Nested) -> Result<Found, Refusal>,
+    F: Fn(Global, &Types<'_>, &mut Cursor<'_>, usize, u32, Nested) -> Result<Found, Refusal>,
 >(
     grammar: &Grammar<'_, F>,
     cursor: &mut Cursor<'_>,
@@ -171,7 +170,7 @@ fn more_parameters<
 
 /// One more parameter, behind a comma.
 fn another_parameter<
-    F: Fn(Global, &Types, &mut Cursor<'_>, usize, u32, Nested) -> Result<Found, Refusal>,
+    F: Fn(Global, &Types<'_>, &mut Cursor<'_>, usize, u32, Nested) -> Result<Found, Refusal>,
 >(grammar: &Grammar<'_, F>, cursor: &mut Cursor<'_>, d: u32) -> Result<Parameter, Refusal>
     requires nests { Nests grammar.now.budget (F.pre grammar.now.read) (F.post grammar.now.read) }
     requires small { d ≤ 1001 }
@@ -183,7 +182,7 @@ fn another_parameter<
 
 /// One parameter, in its own scope.
 fn one_parameter<
-    F: Fn(Global, &Types, &mut Cursor<'_>, usize, u32, Nested) -> Result<Found, Refusal>,
+    F: Fn(Global, &Types<'_>, &mut Cursor<'_>, usize, u32, Nested) -> Result<Found, Refusal>,
 >(grammar: &Grammar<'_, F>, cursor: &mut Cursor<'_>, d: u32) -> Result<Parameter, Refusal>
     requires nests { Nests grammar.now.budget (F.pre grammar.now.read) (F.post grammar.now.read) }
     requires small { d ≤ 1001 }
@@ -197,23 +196,21 @@ fn one_parameter<
 
 /// A parameter, with a name or without.
 #[tactic(auto, using(expression_parser::proofs::Opens::parameter_performs))]
-fn parameter<F: Fn(Global, &Types, &mut Cursor<'_>, usize, u32, Nested) -> Result<Found, Refusal>>(
-    grammar: &Grammar<'_, F>,
-    cursor: &mut Cursor<'_>,
-    d: u32,
-) -> Result<Parameter, Refusal>
+fn parameter<
+    F: Fn(Global, &Types<'_>, &mut Cursor<'_>, usize, u32, Nested) -> Result<Found, Refusal>,
+>(grammar: &Grammar<'_, F>, cursor: &mut Cursor<'_>, d: u32) -> Result<Parameter, Refusal>
     requires nests { Nests grammar.now.budget (F.pre grammar.now.read) (F.post grammar.now.read) }
     requires small { d ≤ 1001 }
     ensures { Gives view_parameter (read (rules.a_parameter grammar.now.types.now d) cursor.old) result cursor.new }
 {
-    let specs = specifiers(grammar, cursor, d)?;
+    let specs = specifiers(grammar, cursor, d, false)?;
     let stars = stars(grammar.alloc, cursor)?;
     formed(grammar, cursor, d, specs, stars)
 }
 
 /// A parameter behind its stars.
 #[tactic(auto, using(c_tree::proofs::ViewLemmas::view_Parameter, c_tree::proofs::ViewLemmas::view_ParamForm_Bare, c_tree::proofs::ViewLemmas::view_Bare_Plain))]
-fn formed<F: Fn(Global, &Types, &mut Cursor<'_>, usize, u32, Nested) -> Result<Found, Refusal>>(
+fn formed<F: Fn(Global, &Types<'_>, &mut Cursor<'_>, usize, u32, Nested) -> Result<Found, Refusal>>(
     grammar: &Grammar<'_, F>,
     cursor: &mut Cursor<'_>,
     d: u32,
@@ -222,9 +219,9 @@ fn formed<F: Fn(Global, &Types, &mut Cursor<'_>, usize, u32, Nested) -> Result<F
 ) -> Result<Parameter, Refusal>
     requires nests { Nests grammar.now.budget (F.pre grammar.now.read) (F.post grammar.now.read) }
     requires small { d ≤ 1001 }
-    ensures { Gives view_parameter (perform (look grammar.now.types.now (rules.parameter_by grammar.now.types.now d (specifiers_of (map view_specifier specs)) stars)) cursor.old) result cursor.new }
+    ensures { Gives view_parameter (perform (look (rules.barred grammar.now.types.now) (rules.parameter_by grammar.now.types.now d (specifiers_of (map view_specifier specs)) stars)) cursor.old) result cursor.new }
 {
-    match kind(grammar.types, cursor) {
+    match new_kind(grammar.types, cursor) {
         Kind::Name => named(grammar, cursor, d, specs, stars),
         Kind::OpenParen => {
             cursor.take();
@@ -239,7 +236,7 @@ fn formed<F: Fn(Global, &Types, &mut Cursor<'_>, usize, u32, Nested) -> Result<F
 
 /// A parameter at its name.
 #[tactic(auto, using(c_tree::proofs::ViewLemmas::view_Parameter, c_tree::proofs::ViewLemmas::view_ParamForm_Named, c_tree::proofs::ViewLemmas::view_Declarator_Array, c_tree::proofs::ViewLemmas::view_Declarator_Plain))]
-fn named<F: Fn(Global, &Types, &mut Cursor<'_>, usize, u32, Nested) -> Result<Found, Refusal>>(
+fn named<F: Fn(Global, &Types<'_>, &mut Cursor<'_>, usize, u32, Nested) -> Result<Found, Refusal>>(
     grammar: &Grammar<'_, F>,
     cursor: &mut Cursor<'_>,
     d: u32,
@@ -264,7 +261,7 @@ fn named<F: Fn(Global, &Types, &mut Cursor<'_>, usize, u32, Nested) -> Result<Fo
 }
 
 /// A parameter behind the bracket of a pointer to a function.
-fn inner<F: Fn(Global, &Types, &mut Cursor<'_>, usize, u32, Nested) -> Result<Found, Refusal>>(
+fn inner<F: Fn(Global, &Types<'_>, &mut Cursor<'_>, usize, u32, Nested) -> Result<Found, Refusal>>(
     grammar: &Grammar<'_, F>,
     cursor: &mut Cursor<'_>,
     d: u32,
@@ -277,7 +274,7 @@ fn inner<F: Fn(Global, &Types, &mut Cursor<'_>, usize, u32, Nested) -> Result<Fo
 {
     expect(cursor, Kind::Star)?;
     let quals = quals(grammar.alloc, cursor)?;
-    match kind(grammar.types, cursor) {
+    match new_kind(grammar.types, cursor) {
         Kind::Name => named_pointer(grammar, cursor, d, specs, stars, quals),
         Kind::CloseParen => bare_pointer(grammar, cursor, d, specs, stars, quals),
         _ => Err(refused(cursor)),
@@ -287,7 +284,7 @@ fn inner<F: Fn(Global, &Types, &mut Cursor<'_>, usize, u32, Nested) -> Result<Fo
 /// A pointer to a function, at its name.
 #[tactic(auto, using(c_tree::proofs::ViewLemmas::view_Parameter, c_tree::proofs::ViewLemmas::view_ParamForm_Named, c_tree::proofs::ViewLemmas::view_Declarator_Pointer))]
 fn named_pointer<
-    F: Fn(Global, &Types, &mut Cursor<'_>, usize, u32, Nested) -> Result<Found, Refusal>,
+    F: Fn(Global, &Types<'_>, &mut Cursor<'_>, usize, u32, Nested) -> Result<Found, Refusal>,
 >(
     grammar: &Grammar<'_, F>,
     cursor: &mut Cursor<'_>,
@@ -316,7 +313,7 @@ fn named_pointer<
 /// A pointer to a function without a name, at the bracket behind its star.
 #[tactic(auto, using(c_tree::proofs::ViewLemmas::view_Parameter, c_tree::proofs::ViewLemmas::view_ParamForm_Bare, c_tree::proofs::ViewLemmas::view_Bare_Pointer))]
 fn bare_pointer<
-    F: Fn(Global, &Types, &mut Cursor<'_>, usize, u32, Nested) -> Result<Found, Refusal>,
+    F: Fn(Global, &Types<'_>, &mut Cursor<'_>, usize, u32, Nested) -> Result<Found, Refusal>,
 >(
     grammar: &Grammar<'_, F>,
     cursor: &mut Cursor<'_>,

@@ -11,42 +11,43 @@ ghost use Rattle.type_parser.specs.SpecifierWords.{a_specifier};
 
 use crate::declarator::bare;
 use crate::tagged::{enumeration, structure};
-use crate::words::{Start, Words, keyword};
+use crate::words::{Start, Words, is_type_word, keyword, stays};
 use c_grammar::Cursor;
 use c_tree::{SpecWord, Specs, TypeName};
-use expression_parser::grammar::{Found, Grammar, Nested};
+use expression_parser::grammar::{Found, Grammar, Nested, Types};
 use expression_parser::refusal::Refusal;
-use expression_parser::steps::{kind, refused, word};
-use program_scope::Types;
+use expression_parser::steps::{kind, refused, spend, word};
 use sqlite_items::Items;
 use std::alloc::Global;
 
 /// The type that a cast or sizeof names.
 #[tactic(auto, using(expression_parser::proofs::Opens::type_performs, c_tree::proofs::ViewLemmas::view_TypeName))]
 pub fn type_name<
-    F: Fn(Global, &Types, &mut Cursor<'_>, usize, u32, Nested) -> Result<Found, Refusal>,
+    F: Fn(Global, &Types<'_>, &mut Cursor<'_>, usize, u32, Nested) -> Result<Found, Refusal>,
 >(grammar: &Grammar<'_, F>, cursor: &mut Cursor<'_>, d: u32) -> Result<TypeName, Refusal>
     requires nests { Nests grammar.now.budget (F.pre grammar.now.read) (F.post grammar.now.read) }
     requires small { d ≤ 1001 }
     ensures { Gives view_type (read (a_type grammar.now.types.now d) cursor.old) result cursor.new }
 {
-    let specs = specifiers(grammar, cursor, d)?;
+    let specs = specifiers(grammar, cursor, d, false)?;
     let bare = bare(grammar, cursor, d)?;
     Ok(TypeName { specs, bare })
 }
 
-/// The specifiers of one type.
+/// The specifiers of one type. A name may have to follow them, unless they have a struct or an enum.
 pub fn specifiers<
-    F: Fn(Global, &Types, &mut Cursor<'_>, usize, u32, Nested) -> Result<Found, Refusal>,
->(grammar: &Grammar<'_, F>, cursor: &mut Cursor<'_>, d: u32) -> Result<Specs, Refusal>
+    F: Fn(Global, &Types<'_>, &mut Cursor<'_>, usize, u32, Nested) -> Result<Found, Refusal>,
+>(grammar: &Grammar<'_, F>, cursor: &mut Cursor<'_>, d: u32, named: bool) -> Result<Specs, Refusal>
     requires nests { Nests grammar.now.budget (F.pre grammar.now.read) (F.post grammar.now.read) }
     requires small { d ≤ 1001 }
-    ensures { Gives (λ ws. specifiers_of (map view_specifier ws)) (read (all_specifiers grammar.now.types.now d []) cursor.old) result cursor.new }
+    ensures { Gives (λ ws. specifiers_of (map view_specifier ws)) (read (all_specifiers grammar.now.types.now d named []) cursor.old) result cursor.new }
 {
     let mut found = Items::new(grammar.alloc);
     let mut words = Words::new(grammar.alloc);
+    let mut owing = named;
     while let Some(start) = words.follow(kind(grammar.types, cursor))? {
-        found.push(specifier(grammar, cursor, d, start)?)?;
+        found.push(specifier(grammar, cursor, d, owing, start)?)?;
+        owing = stays(owing, start);
     }
     if words.is_whole() {
         Ok(found)
@@ -55,24 +56,33 @@ pub fn specifiers<
     }
 }
 
-/// One specifier.
+/// One specifier. The first word of a type that is neither a struct nor an enum makes the name necessary that has to follow.
 #[tactic(auto, using(c_tree::proofs::ViewLemmas::view_SpecWord_TypeName))]
-fn specifier<F: Fn(Global, &Types, &mut Cursor<'_>, usize, u32, Nested) -> Result<Found, Refusal>>(
+fn specifier<
+    F: Fn(Global, &Types<'_>, &mut Cursor<'_>, usize, u32, Nested) -> Result<Found, Refusal>,
+>(
     grammar: &Grammar<'_, F>,
     cursor: &mut Cursor<'_>,
     d: u32,
+    owing: bool,
     start: Start,
 ) -> Result<SpecWord, Refusal>
     requires nests { Nests grammar.now.budget (F.pre grammar.now.read) (F.post grammar.now.read) }
     requires small { d ≤ 1001 }
-    ensures { Gives view_specifier (perform (a_specifier grammar.now.types.now d start) cursor.old) result cursor.new }
+    ensures { Gives view_specifier (perform (a_specifier grammar.now.types.now d owing start) cursor.old) result cursor.new }
 {
     match start {
         Start::Word(found) => {
+            if is_type_word(found) && owing {
+                spend(cursor, 1, d + 1)?;
+            }
             cursor.take();
             Ok(keyword(found))
         }
         Start::TypeName => {
+            if owing {
+                spend(cursor, 1, d + 1)?;
+            }
             let name = word(grammar.alloc, cursor)?;
             Ok(SpecWord::TypeName(name))
         }

@@ -5,7 +5,7 @@ ghost use Rattle.c_tree.specs.Tree.{declarators};
 ghost use Rattle.c_tree.specs.View.{view_specifier, view_declarator, view_enumerator, view_member, specifiers_of, members_of, declarators_of, enumerators_of};
 ghost use Rattle.c_grammar.specs.Body.{look};
 ghost use Rattle.c_grammar.specs.Reading.{read};
-ghost use Rattle.c_grammar.specs.Rules.{a_struct, all_members, all_declarators, more_declarators, an_enum, all_enumerators, struct_body_by, enum_body_by};
+ghost use Rattle.c_grammar.specs.Rules.{barred, a_struct, all_members, all_declarators, more_declarators, an_enum, all_enumerators, struct_body_by, enum_body_by};
 ghost use Rattle.expression_parser.specs.Gives.{Gives};
 ghost use Rattle.expression_parser.specs.Lists.{mapped};
 ghost use Rattle.expression_parser.specs.Nests.{Nests};
@@ -17,17 +17,18 @@ use crate::specifier::specifiers;
 use base_core::Lexeme;
 use c_grammar::{Cursor, Kind, same_kind};
 use c_tree::{Declarator, Enumerator, Member, SpecWord, Specs};
-use expression_parser::grammar::{Found, Grammar, Nested};
+use expression_parser::grammar::{Found, Grammar, Nested, Types};
 use expression_parser::infix::begins_type;
 use expression_parser::refusal::Refusal;
-use expression_parser::steps::{expect, kind, name, refused, spend, word};
-use program_scope::Types;
+use expression_parser::steps::{expect, kind, new_kind, new_name, refused, spend, word};
 use sqlite_items::Items;
 use std::alloc::Global;
 
 /// The members of a struct in their braces, behind its tag if it has one.
 #[tactic(auto, using(c_tree::proofs::ViewLemmas::view_SpecWord_Struct))]
-fn struct_in<F: Fn(Global, &Types, &mut Cursor<'_>, usize, u32, Nested) -> Result<Found, Refusal>>(
+fn struct_in<
+    F: Fn(Global, &Types<'_>, &mut Cursor<'_>, usize, u32, Nested) -> Result<Found, Refusal>,
+>(
     grammar: &Grammar<'_, F>,
     cursor: &mut Cursor<'_>,
     d: u32,
@@ -46,7 +47,7 @@ fn struct_in<F: Fn(Global, &Types, &mut Cursor<'_>, usize, u32, Nested) -> Resul
 /// A struct, behind its tag: its members, or the tag alone.
 #[tactic(auto, using(c_tree::proofs::ViewLemmas::view_SpecWord_StructTag))]
 fn struct_body<
-    F: Fn(Global, &Types, &mut Cursor<'_>, usize, u32, Nested) -> Result<Found, Refusal>,
+    F: Fn(Global, &Types<'_>, &mut Cursor<'_>, usize, u32, Nested) -> Result<Found, Refusal>,
 >(
     grammar: &Grammar<'_, F>,
     cursor: &mut Cursor<'_>,
@@ -66,7 +67,7 @@ fn struct_body<
 /// A struct, behind the word struct.
 #[tactic(auto, using(expression_parser::proofs::Opens::struct_performs))]
 pub fn structure<
-    F: Fn(Global, &Types, &mut Cursor<'_>, usize, u32, Nested) -> Result<Found, Refusal>,
+    F: Fn(Global, &Types<'_>, &mut Cursor<'_>, usize, u32, Nested) -> Result<Found, Refusal>,
 >(grammar: &Grammar<'_, F>, cursor: &mut Cursor<'_>, d: u32) -> Result<SpecWord, Refusal>
     requires nests { Nests grammar.now.budget (F.pre grammar.now.read) (F.post grammar.now.read) }
     requires small { d ≤ 1001 }
@@ -85,14 +86,14 @@ pub fn structure<
 /// Behind the semicolon of a member: the closing brace, or another member begins.
 #[tactic(auto, using(c_tree::proofs::ViewLemmas::view_Member))]
 fn behind_member(
-    types: &Types,
+    types: &Types<'_>,
     cursor: &mut Cursor<'_>,
     d: u32,
     specs: Specs,
     names: Items<Declarator>,
 ) -> Result<(Member, bool), Refusal>
     requires small { d ≤ 1001 }
-    ensures { Gives (λ p. (view_member p.0, p.1)) (perform (look types.now (behind_member_by types.now d (specifiers_of (map view_specifier specs), declarators_of (map view_declarator names)))) cursor.old) result cursor.new }
+    ensures { Gives (λ p. (view_member p.0, p.1)) (perform (look types.now.names (behind_member_by types.now d (specifiers_of (map view_specifier specs), declarators_of (map view_declarator names)))) cursor.old) result cursor.new }
 {
     match kind(types, cursor) {
         Kind::CloseBrace => {
@@ -110,7 +111,7 @@ fn behind_member(
 }
 
 /// One member, and whether it is the last.
-fn member<F: Fn(Global, &Types, &mut Cursor<'_>, usize, u32, Nested) -> Result<Found, Refusal>>(
+fn member<F: Fn(Global, &Types<'_>, &mut Cursor<'_>, usize, u32, Nested) -> Result<Found, Refusal>>(
     grammar: &Grammar<'_, F>,
     cursor: &mut Cursor<'_>,
     d: u32,
@@ -119,7 +120,7 @@ fn member<F: Fn(Global, &Types, &mut Cursor<'_>, usize, u32, Nested) -> Result<F
     requires small { d ≤ 1000 }
     ensures { Gives (λ p. (view_member p.0, p.1)) (perform (one_member grammar.now.types.now d) cursor.old) result cursor.new }
 {
-    let specs = specifiers(grammar, cursor, d)?;
+    let specs = specifiers(grammar, cursor, d, false)?;
     let names = declarators(grammar, cursor, d)?;
     expect(cursor, Kind::Semicolon)?;
     behind_member(grammar.types, cursor, d, specs, names)
@@ -128,7 +129,7 @@ fn member<F: Fn(Global, &Types, &mut Cursor<'_>, usize, u32, Nested) -> Result<F
 /// The members of a struct, with the closing brace. The brace before them was within the limits, so that `d` is below 1000
 /// and the first refusal never comes.
 pub fn all_members<
-    F: Fn(Global, &Types, &mut Cursor<'_>, usize, u32, Nested) -> Result<Found, Refusal>,
+    F: Fn(Global, &Types<'_>, &mut Cursor<'_>, usize, u32, Nested) -> Result<Found, Refusal>,
 >(grammar: &Grammar<'_, F>, cursor: &mut Cursor<'_>, d: u32) -> Result<Items<Member>, Refusal>
     requires nests { Nests grammar.now.budget (F.pre grammar.now.read) (F.post grammar.now.read) }
     requires small { d ≤ 1001 }
@@ -149,7 +150,7 @@ pub fn all_members<
 
 /// One more declarator of a member, behind a comma.
 fn another_declarator<
-    F: Fn(Global, &Types, &mut Cursor<'_>, usize, u32, Nested) -> Result<Found, Refusal>,
+    F: Fn(Global, &Types<'_>, &mut Cursor<'_>, usize, u32, Nested) -> Result<Found, Refusal>,
 >(grammar: &Grammar<'_, F>, cursor: &mut Cursor<'_>, d: u32) -> Result<Declarator, Refusal>
     requires nests { Nests grammar.now.budget (F.pre grammar.now.read) (F.post grammar.now.read) }
     requires small { d ≤ 1001 }
@@ -157,13 +158,12 @@ fn another_declarator<
 {
     spend(cursor, 1, d + 1)?;
     cursor.take();
-    let none = Types::new(grammar.alloc);
-    declarator(grammar, cursor, d + 1, false, &none)
+    declarator(grammar, cursor, d + 1, false)
 }
 
 /// The declarators of a member, behind the first.
 fn more_declarators<
-    F: Fn(Global, &Types, &mut Cursor<'_>, usize, u32, Nested) -> Result<Found, Refusal>,
+    F: Fn(Global, &Types<'_>, &mut Cursor<'_>, usize, u32, Nested) -> Result<Found, Refusal>,
 >(
     grammar: &Grammar<'_, F>,
     cursor: &mut Cursor<'_>,
@@ -185,21 +185,22 @@ fn more_declarators<
 /// The declarators of a member.
 #[tactic(auto, using(expression_parser::proofs::Opens::declarators_performs))]
 fn declarators<
-    F: Fn(Global, &Types, &mut Cursor<'_>, usize, u32, Nested) -> Result<Found, Refusal>,
+    F: Fn(Global, &Types<'_>, &mut Cursor<'_>, usize, u32, Nested) -> Result<Found, Refusal>,
 >(grammar: &Grammar<'_, F>, cursor: &mut Cursor<'_>, d: u32) -> Result<Items<Declarator>, Refusal>
     requires nests { Nests grammar.now.budget (F.pre grammar.now.read) (F.post grammar.now.read) }
     requires small { d ≤ 1000 }
     ensures { Gives (λ cs. declarators_of (map view_declarator cs)) (read (all_declarators grammar.now.types.now d) cursor.old) result cursor.new }
 {
-    let none = Types::new(grammar.alloc);
-    let first = declarator(grammar, cursor, d + 1, false, &none)?;
+    let first = declarator(grammar, cursor, d + 1, false)?;
     let found = more_declarators(grammar, cursor, d, first)?;
     Ok(found)
 }
 
 /// The enumerators in their braces, behind the tag of the enum if it has one.
 #[tactic(auto, using(c_tree::proofs::ViewLemmas::view_SpecWord_Enum))]
-fn enum_in<F: Fn(Global, &Types, &mut Cursor<'_>, usize, u32, Nested) -> Result<Found, Refusal>>(
+fn enum_in<
+    F: Fn(Global, &Types<'_>, &mut Cursor<'_>, usize, u32, Nested) -> Result<Found, Refusal>,
+>(
     grammar: &Grammar<'_, F>,
     cursor: &mut Cursor<'_>,
     d: u32,
@@ -217,7 +218,9 @@ fn enum_in<F: Fn(Global, &Types, &mut Cursor<'_>, usize, u32, Nested) -> Result<
 
 /// An enum, behind its tag: its enumerators, or the tag alone.
 #[tactic(auto, using(c_tree::proofs::ViewLemmas::view_SpecWord_EnumTag))]
-fn enum_body<F: Fn(Global, &Types, &mut Cursor<'_>, usize, u32, Nested) -> Result<Found, Refusal>>(
+fn enum_body<
+    F: Fn(Global, &Types<'_>, &mut Cursor<'_>, usize, u32, Nested) -> Result<Found, Refusal>,
+>(
     grammar: &Grammar<'_, F>,
     cursor: &mut Cursor<'_>,
     d: u32,
@@ -236,7 +239,7 @@ fn enum_body<F: Fn(Global, &Types, &mut Cursor<'_>, usize, u32, Nested) -> Resul
 /// An enum, behind the word enum.
 #[tactic(auto, using(expression_parser::proofs::Opens::enum_performs))]
 pub fn enumeration<
-    F: Fn(Global, &Types, &mut Cursor<'_>, usize, u32, Nested) -> Result<Found, Refusal>,
+    F: Fn(Global, &Types<'_>, &mut Cursor<'_>, usize, u32, Nested) -> Result<Found, Refusal>,
 >(grammar: &Grammar<'_, F>, cursor: &mut Cursor<'_>, d: u32) -> Result<SpecWord, Refusal>
     requires nests { Nests grammar.now.budget (F.pre grammar.now.read) (F.post grammar.now.read) }
     requires small { d ≤ 1001 }
@@ -254,15 +257,15 @@ pub fn enumeration<
 
 /// Behind the comma of an enumerator: the closing brace, or another enumerator begins.
 fn behind_comma(
-    types: &Types,
+    types: &Types<'_>,
     cursor: &mut Cursor<'_>,
     d: u32,
     found: Enumerator,
 ) -> Result<(Enumerator, Option<bool>), Refusal>
     requires small { d ≤ 1001 }
-    ensures { Gives (λ p. (view_enumerator p.0, p.1)) (perform (look types.now (next_by types.now d (view_enumerator found))) cursor.old) result cursor.new }
+    ensures { Gives (λ p. (view_enumerator p.0, p.1)) (perform (look (barred types.now) (next_by types.now d (view_enumerator found))) cursor.old) result cursor.new }
 {
-    match kind(types, cursor) {
+    match new_kind(types, cursor) {
         Kind::CloseBrace => {
             cursor.take();
             Ok((found, Some(true)))
@@ -277,7 +280,7 @@ fn behind_comma(
 
 /// Behind an enumerator: the closing brace, or a comma.
 fn behind_enumerator(
-    types: &Types,
+    types: &Types<'_>,
     cursor: &mut Cursor<'_>,
     d: u32,
     found: Enumerator,
@@ -300,7 +303,7 @@ fn behind_enumerator(
 
 /// An enumerator, behind its name: its value if it has one, and what stands behind it.
 #[tactic(auto, using(c_tree::proofs::ViewLemmas::view_Enumerator))]
-fn value<F: Fn(Global, &Types, &mut Cursor<'_>, usize, u32, Nested) -> Result<Found, Refusal>>(
+fn value<F: Fn(Global, &Types<'_>, &mut Cursor<'_>, usize, u32, Nested) -> Result<Found, Refusal>>(
     grammar: &Grammar<'_, F>,
     cursor: &mut Cursor<'_>,
     d: u32,
@@ -325,7 +328,9 @@ fn value<F: Fn(Global, &Types, &mut Cursor<'_>, usize, u32, Nested) -> Result<Fo
 }
 
 /// One enumerator, and where it is the last whether a comma stands behind it.
-fn enumerator<F: Fn(Global, &Types, &mut Cursor<'_>, usize, u32, Nested) -> Result<Found, Refusal>>(
+fn enumerator<
+    F: Fn(Global, &Types<'_>, &mut Cursor<'_>, usize, u32, Nested) -> Result<Found, Refusal>,
+>(
     grammar: &Grammar<'_, F>,
     cursor: &mut Cursor<'_>,
     d: u32,
@@ -334,13 +339,13 @@ fn enumerator<F: Fn(Global, &Types, &mut Cursor<'_>, usize, u32, Nested) -> Resu
     requires small { d ≤ 1001 }
     ensures { Gives (λ p. (view_enumerator p.0, p.1)) (perform (one_enumerator grammar.now.types.now d) cursor.old) result cursor.new }
 {
-    let name = name(grammar.alloc, grammar.types, cursor)?;
+    let name = new_name(grammar.alloc, grammar.types, cursor)?;
     value(grammar, cursor, d, name)
 }
 
 /// The enumerators, with the closing brace, and whether a comma stands before it.
 fn enumerators<
-    F: Fn(Global, &Types, &mut Cursor<'_>, usize, u32, Nested) -> Result<Found, Refusal>,
+    F: Fn(Global, &Types<'_>, &mut Cursor<'_>, usize, u32, Nested) -> Result<Found, Refusal>,
 >(
     grammar: &Grammar<'_, F>,
     cursor: &mut Cursor<'_>,

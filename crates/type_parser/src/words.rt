@@ -5,6 +5,7 @@ ghost use Rattle.std.specs.List.{list_all};
 ghost use Rattle.c_tree.specs.TypeWords as tree;
 ghost use Rattle.c_tree.specs.View.{view_specifier};
 ghost use Rattle.c_grammar.specs.Rules as rules;
+ghost use Rattle.type_parser.specs.SpecifierWords as spec;
 ghost use Rattle.type_parser.specs.SpecifierWords.{specifier_of, view_start, view_word, view_some_word, view_words, word_of, is_alone, Adds, Goes};
 
 use c_grammar::Kind;
@@ -85,6 +86,32 @@ pub fn keyword(word: Word) -> SpecWord
         Word::Long => SpecWord::Long,
         Word::Signed => SpecWord::Signed,
         Word::Unsigned => SpecWord::Unsigned,
+    }
+}
+
+/// Whether the keyword is no qualifier.
+pub fn is_type_word(word: Word) -> bool
+    ensures { result ≡ spec.is_type_word word }
+{
+    match word {
+        Word::Const | Word::Volatile => false,
+        Word::Void
+        | Word::Char
+        | Word::Short
+        | Word::Int
+        | Word::Long
+        | Word::Signed
+        | Word::Unsigned => true,
+    }
+}
+
+/// Whether a name that has to follow is still not counted behind a specifier.
+pub fn stays(owing: bool, start: Start) -> bool
+    ensures { result ≡ spec.stays owing (view_start (Some start)) }
+{
+    match start {
+        Start::Word(Word::Const | Word::Volatile) => owing,
+        _ => false,
     }
 }
 

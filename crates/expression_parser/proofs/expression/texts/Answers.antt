@@ -1,4 +1,4 @@
-use Rattle.std.proofs.Common.{◌≡◌, [], true, false, refl}
+use Rattle.std.proofs.Common.{◌≡◌, [], true, false}
 use Rattle.c_grammar.specs.declared.kind.Kind.TheVariants as k
 use Rattle.c_grammar.specs.Kind.{kind, same_kind}
 use Rattle.expression_parser.proofs.Listing.{texts_turn, texts_end, texts_shorter}

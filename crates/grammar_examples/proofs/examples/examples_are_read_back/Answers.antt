@@ -51,3 +51,6 @@ returns-clause-jump c = computed.jump
 
 pub returns-clause-postfix : goal.returns-clause-postfix
 returns-clause-postfix c = computed.postfix
+
+pub returns-clause-size_of_its_own_name : goal.returns-clause-size_of_its_own_name
+returns-clause-size_of_its_own_name c = computed.size_of_its_own_name

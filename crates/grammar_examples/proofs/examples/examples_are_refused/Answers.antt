@@ -21,3 +21,12 @@ returns-clause-long_char c = computed.long_char
 
 pub returns-clause-function_with_a_value : goal.returns-clause-function_with_a_value
 returns-clause-function_with_a_value c = computed.function_with_a_value
+
+pub returns-clause-parameter_named_as_its_type : goal.returns-clause-parameter_named_as_its_type
+returns-clause-parameter_named_as_its_type c = computed.parameter_named_as_its_type
+
+pub returns-clause-member_named_as_its_type : goal.returns-clause-member_named_as_its_type
+returns-clause-member_named_as_its_type c = computed.member_named_as_its_type
+
+pub returns-clause-enumerator_named_as_its_type : goal.returns-clause-enumerator_named_as_its_type
+returns-clause-enumerator_named_as_its_type c = computed.enumerator_named_as_its_type

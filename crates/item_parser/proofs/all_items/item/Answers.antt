@@ -7,6 +7,6 @@ use Rattle.item_parser.proofs.all_items.item.Goals as goal
 
 pub returns-in_ok-spend-in_default-clause-reads : goal.returns-in_ok-spend-in_default-clause-reads
 returns-in_ok-spend-in_default-clause-reads c =
-    let begins : begins_type c.kind.result ≡ true = first_of (cc, search rules) in
-    let e = item_on c.args.scope.now c.types.result.now c.kind.result c.args.cursor.now c.spend.new.cursor c.types.ensures c.kind.ensures c.in_default.not-Static c.in_default.not-Extern c.in_default.not-Typedef begins c.in_ok-spend-in_default.ensures in
+    let begins : begins_type c.kind_outside.result ≡ true = first_of (cc, search rules) in
+    let e = item_on c.args.scope.now c.kind_outside.result c.args.cursor.now c.spend.new.cursor c.kind_outside.ensures c.in_default.not-Static c.in_default.not-Extern c.in_default.not-Typedef begins c.in_ok-spend-in_default.ensures in
     subst (λ o. Gives view_item o c.specified.result c.specified.new.cursor) (sym e) c.specified.ensures.reads

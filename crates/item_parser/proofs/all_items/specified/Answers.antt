@@ -7,5 +7,5 @@ use Rattle.item_parser.proofs.all_items.specified.Goals as goal
 
 pub returns-clause-reads : goal.returns-clause-reads
 returns-clause-reads c =
-    let e = specified_on c.args.storage c.args.scope.now c.types.result.now (specifiers_of (map view_specifier c.in_ok-specs.specs)) c.args.cursor.now c.specifiers.new.cursor c.types.ensures c.in_ok-specs.ensures in
+    let e = specified_on c.args.storage c.args.scope.now c.inner_types-types.result (specifiers_of (map view_specifier c.in_ok-specs.specs)) c.args.cursor.now c.specifiers.new.cursor c.inner_types-types.ensures c.in_ok-specs.ensures in
     subst (λ o. Gives view_item o c.behind_specifiers.result c.behind_specifiers.new.cursor) (sym e) c.behind_specifiers.ensures.reads

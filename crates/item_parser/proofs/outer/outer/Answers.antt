@@ -7,5 +7,5 @@ use Rattle.item_parser.proofs.outer.outer.Goals as goal
 
 pub returns : goal.returns
 returns c =
-    let e = outer_on c.args.storage c.args.scope.now c.types.result.now c.types-2.result.now c.taken-taken.result.now (view_declarator c.in_ok-found.found) c.args.cursor.now c.declarator.new.cursor c.types.ensures c.types-2.ensures c.taken-taken.ensures c.in_ok-found.ensures in
+    let e = outer_on c.args.storage c.args.scope.now c.outer_types-types.result (view_declarator c.in_ok-found.found) c.args.cursor.now c.outer_declarator.new.cursor c.outer_types-types.ensures c.in_ok-found.ensures in
     subst (λ o. Gives view_named o c.behind_declarator.result c.behind_declarator.new.cursor) (sym e) c.behind_declarator.ensures

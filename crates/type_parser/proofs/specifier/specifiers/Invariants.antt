@@ -8,7 +8,7 @@ use Rattle.type_parser.proofs.specifier.specifiers.Given as goal
 
 abbrev pub invariant-loop-words : goal.invariant-loop-words
 invariant-loop-words g l =
-    Loop specifiers (map view_specifier l.found) (read (all_specifiers l.grammar.types.now l.d l.words) l.cursor) (read (all_specifiers l.fn.grammar.types.now l.fn.d []) l.fn.cursor)
+    Loop specifiers (map view_specifier l.found) (read (all_specifiers l.grammar.types.now l.d l.owing l.words) l.cursor) (read (all_specifiers l.fn.grammar.types.now l.fn.d l.fn.named []) l.fn.cursor)
 
 abbrev pub decreases-loop-words : goal.decreases-loop-words
 decreases-loop-words g l = length l.cursor.rest

@@ -1,4 +1,4 @@
-use Rattle.std.proofs.Common.{◌≡◌, [], map, true, false, refl}
+use Rattle.std.proofs.Common.{◌≡◌, [], map, true, false}
 use Rattle.c_tree.specs.Tree.{no_expressions}
 use Rattle.c_tree.specs.View.{view_expression, expressions_of}
 use Rattle.c_grammar.specs.declared.kind.Kind.TheVariants as k

@@ -1,5 +1,5 @@
 use Rattle.program_scope.proofs.Known.{joins_last}
-use Rattle.program_scope.proofs.types.Types.add.Goals as goal
+use Rattle.program_scope.proofs.names.Names.add.Goals as goal
 
 pub invariant_of-self-2 : goal.invariant_of-self-2
 invariant_of-self-2 c =

@@ -1,5 +1,5 @@
 use Rattle.program_scope.proofs.Known.{joins_first}
-use Rattle.program_scope.proofs.types.Types.add_first.Goals as goal
+use Rattle.program_scope.proofs.names.Names.add_first.Goals as goal
 
 pub invariant_of-self-2 : goal.invariant_of-self-2
 invariant_of-self-2 c =

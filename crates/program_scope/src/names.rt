@@ -10,14 +10,14 @@ use std::marker::Model;
 
 /// A set of names. A contract sees the list of them.
 #[derive(Drop)]
-pub struct Types {
+pub struct Names {
     alloc: Global,
     names: VecDeque<Lexeme>,
     /// The same names, each once, so that a look-up is fast.
     known: HashSet<Vec<u8>>,
 }
 
-impl Model for Types {
+impl Model for Names {
     ghost use Rattle.std.specs.Prelude.{List};
     ghost use Rattle.c_tree.specs.Tree.{Name};
     ghost use Rattle.program_scope.specs.Known.{HoldSame};
@@ -29,12 +29,12 @@ impl Model for Types {
     ghost invariant = { λ t. HoldSame t.known.keys t.names.items };
 }
 
-impl Types {
+impl Names {
     /// No names.
     pub fn new(alloc: Global) -> Self
         ensures { result ≡ [] }
     {
-        Types {
+        Names {
             alloc,
             names: VecDeque::new(alloc),
             known: HashSet::new(alloc),

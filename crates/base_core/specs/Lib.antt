@@ -9,3 +9,6 @@ pub mod MemShelf
 pub mod FileShelf
 pub mod StdSink
 pub mod Lexeme
+pub mod Limits
+pub mod Keywords
+pub mod Rules

@@ -1,4 +1,3 @@
 pub mod Putting
-pub mod Conditions
 pub mod Texts
 pub mod Endings

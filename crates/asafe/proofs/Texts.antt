@@ -3,20 +3,20 @@ use Rattle.std.proofs.Common.{◌≡◌, ◌∙◌, ap, subst, ℕ, suc, ◌<◌
 use Rattle.base_core.specs.declared.token.Token.{Token}
 use Rattle.c_lexer.specs.Lexis.{Lexis, lexis}
 use Rattle.c_lexer.specs.declared.fault.LexFault.{LexFault}
-use Rattle.c_tree.specs.FlatTree.{FlatTree}
-use Rattle.c_tree.specs.FlatShape.{IsFlat}
-use Rattle.c_tree.specs.FlatSpelling.{spell}
+use Rattle.flat_programs.specs.FlatTree.{FlatTree}
+use Rattle.flat_programs.specs.FlatShape.{IsFlat}
+use Rattle.flat_programs.specs.FlatSpelling.{spell}
 use Rattle.c_tree.specs.Tree.{ItemTree}
 use Rattle.c_tree.specs.Shape.{Shape}
 use Rattle.c_tree.specs.Spelling as whole
 use Rattle.c_tree.specs.Limits.{WithinLimits, NestsAtMost}
 use Rattle.c_parser.specs.Faults.{BeginsWith, NoneWithinLimitsBegins, IsFirstNested}
-use Rattle.run_model.proofs.Sound.{sound}
-use Rattle.asafe.specs.Condition.{are_safe}
+use Rattle.flat_programs.proofs.NoBreach.{sound}
+use Rattle.flat_programs.specs.Condition.{are_safe}
 use Rattle.asafe.specs.declared.misfit.Misfit.{Misfit}
 use Rattle.asafe.specs.declared.misfit.Misfit.TheVariants as misfit
 use Rattle.asafe.specs.Text.{HasTokens, Spells, KeepsTheRules, IsRefusedText, IsMisfit}
-use Rattle.asafe.proofs.Conditions.{accepted, not_accepted}
+use Rattle.flat_programs.proofs.Conditions.{accepted, not_accepted}
 
 same_ok : (a b : Lexis) → ◌≡◌ {A = Result Lexis LexFault} (Ok a) (Ok b) → a ≡ b
 same_ok a b same = cc

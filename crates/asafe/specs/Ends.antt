@@ -1,6 +1,6 @@
 -- Which statuses may come where.
 use Rattle.std.specs.Prelude.{ℕ, List}
-use Rattle.c_tree.specs.FlatTree.{FlatTree}
+use Rattle.flat_programs.specs.FlatTree.{FlatTree}
 use Rattle.asafe.specs.declared.status.Status.{Status}
 use Rattle.asafe.specs.declared.status.Status.TheVariants.{Yes, Refused, ReadFault, WriteFault, NoMemory, TooLarge, NotYet}
 use Rattle.asafe.specs.Text.{Spells}

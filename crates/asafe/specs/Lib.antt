@@ -1,6 +1,5 @@
 pub mod Status
 pub mod Words
-pub mod Condition
 pub mod Text
 pub mod Deciding
 pub mod FaultLine

@@ -3,18 +3,18 @@ use Rattle.std.specs.Prelude.{◌≡◌, ◌⊎◌, ℕ, ◌<◌, ◌≤◌, Lis
 use Rattle.base_core.specs.declared.token.Token.{Token}
 use Rattle.c_lexer.specs.Lexis.{Lexis, lexis}
 use Rattle.c_lexer.specs.declared.fault.LexFault.{LexFault}
-use Rattle.c_tree.specs.FlatTree.{FlatTree}
-use Rattle.c_tree.specs.FlatShape.{IsFlat}
-use Rattle.c_tree.specs.FlatSpelling.{spell}
-use Rattle.c_tree.specs.FlatCondition.{IsAccepted}
+use Rattle.flat_programs.specs.FlatTree.{FlatTree}
+use Rattle.flat_programs.specs.FlatShape.{IsFlat}
+use Rattle.flat_programs.specs.FlatSpelling.{spell}
+use Rattle.flat_programs.specs.FlatCondition.{IsAccepted}
 use Rattle.c_tree.specs.Tree.{ItemTree}
 use Rattle.c_tree.specs.Shape.{Shape}
 use Rattle.c_tree.specs.Spelling as whole
 use Rattle.c_tree.specs.Limits.{WithinLimits}
 use Rattle.c_parser.specs.Faults.{NoneBegins, NoneWithinLimitsBegins, IsFirstNested}
-use Rattle.run_model.specs.World.{World, IsStart}
-use Rattle.run_model.specs.Steps.{Run, GoesOn}
-use Rattle.run_model.specs.Breaches.{BreaksNone}
+use Rattle.flat_programs.specs.World.{World, IsStart}
+use Rattle.flat_programs.specs.Steps.{Run, GoesOn}
+use Rattle.flat_programs.specs.Breaches.{BreaksNone}
 use Rattle.asafe.specs.declared.misfit.Misfit.{Misfit}
 use Rattle.asafe.specs.declared.misfit.Misfit.TheVariants.{Syntax, Nested}
 

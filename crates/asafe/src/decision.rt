@@ -1,12 +1,11 @@
 ghost use Rattle.std.specs.Prelude.{IfOk};
 ghost use Rattle.asafe.specs.Deciding.{IsProgram, Decides};
 
-use crate::condition::are_safe;
 use crate::misfit::Misfit;
 use base_core::NoMemory;
 use c_lexer::Tokens;
 use c_parser::{ParseFault, parse};
-use flat_parser::{FlatFault, read_flat};
+use flat_programs::{FlatFault, are_safe, read_flat};
 use std::alloc::Global;
 
 /// What is decided of the tokens of a text.

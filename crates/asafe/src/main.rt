@@ -6,7 +6,6 @@
 #![tactic(auto)]
 
 mod command;
-mod condition;
 mod decision;
 mod ending;
 mod fault_line;

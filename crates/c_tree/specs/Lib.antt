@@ -1,7 +1,3 @@
-pub mod FlatTree
-pub mod FlatSpelling
-pub mod FlatShape
-pub mod FlatCondition
 pub mod Tree
 pub mod View
 pub mod StatementView

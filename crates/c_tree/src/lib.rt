@@ -7,23 +7,16 @@
 //! `WithinLimits` of `specs/Limits.antt` the limits, and `nodes` of `specs/Nodes.antt` the nodes in preorder. That two
 //! programs of that shape with equal spelling are equal is stated in `specs/EqualSpellings.antt`, and not proved here.
 //!
-//! A flat program, of `specs/FlatTree.antt`, is a list of signal handlers and a function `main` whose statements are calls
-//! of library functions and installs of handlers.
-//!
 //! It stands on `base_core`, and on the lists and boxes of `sqlite_items`.
 #![tactic(auto)]
 
-mod flat;
 mod node;
 mod program;
 mod search;
-#[cfg(test)]
-mod tests;
 mod tree;
 mod walk;
 mod walk_items;
 
-pub use flat::{FlatProgram, Handler, LibraryFunction, Statement};
 pub use node::NodeRef;
 pub use program::Program;
 pub use tree::{

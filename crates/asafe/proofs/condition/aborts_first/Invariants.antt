@@ -1,9 +1,0 @@
-use Rattle.std.proofs.Common.{◌≡◌, length}
-use Rattle.asafe.specs.Condition.{aborts_first}
-use Rattle.asafe.proofs.condition.aborts_first.Given as goal
-
-abbrev pub invariant-loop-first : goal.invariant-loop-first
-invariant-loop-first l = aborts_first l.rest ≡ aborts_first l.calls
-
-abbrev pub decreases-loop-first : goal.decreases-loop-first
-decreases-loop-first l = length l.rest

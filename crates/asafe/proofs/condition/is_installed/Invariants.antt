@@ -1,9 +1,0 @@
-use Rattle.std.proofs.Common.{◌≡◌, length}
-use Rattle.asafe.specs.Condition.{is_installed}
-use Rattle.asafe.proofs.condition.is_installed.Given as goal
-
-abbrev pub invariant-loop-first : goal.invariant-loop-first
-invariant-loop-first l = is_installed l.rest l.name ≡ is_installed l.statements l.name
-
-abbrev pub decreases-loop-first : goal.decreases-loop-first
-decreases-loop-first l = length l.rest

@@ -1,9 +1,0 @@
-use Rattle.std.proofs.Common.{◌≡◌, ◌++◌, length}
-use Rattle.c_tree.specs.FlatSpelling.{spell_calls}
-use Rattle.flat_parser.proofs.body.calls.Given as goal
-
-abbrev pub invariant-loop-function : goal.invariant-loop-function
-invariant-loop-function l = l.tokens ≡ spell_calls l.calls.items ++ l.rest
-
-abbrev pub decreases-loop-function : goal.decreases-loop-function
-decreases-loop-function l = length l.rest

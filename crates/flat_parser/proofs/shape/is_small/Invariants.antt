@@ -1,9 +1,0 @@
-use Rattle.std.proofs.Common.{◌≡◌, ◌+◌, length}
-use Rattle.c_tree.specs.FlatShape.{calls_in}
-use Rattle.flat_parser.proofs.shape.is_small.Given as goal
-
-abbrev pub invariant-loop-first : goal.invariant-loop-first
-invariant-loop-first l = calls_in l.handlers + length l.statements + l.room ≡ 100 + calls_in l.rest
-
-abbrev pub decreases-loop-first : goal.decreases-loop-first
-decreases-loop-first l = length l.rest

@@ -1,9 +1,0 @@
-pub mod Seen
-pub mod Expect
-pub mod Call
-pub mod Statement
-pub mod Head
-pub mod Body
-pub mod Handlers
-pub mod Programs
-pub mod Shape

@@ -1,0 +1,15 @@
+pub mod Holding
+pub mod Single
+pub mod Sound
+pub mod Complete
+pub mod Lists
+pub mod Items
+pub mod Readings
+pub mod Conditions
+pub mod Reached
+pub mod Moves
+pub mod Stacks
+pub mod NoBreach
+pub mod Laws
+pub mod Walks
+pub mod Examples

@@ -1,5 +1,6 @@
 pub mod Passing
 pub mod ViewLemmas
+pub mod Stopping
 pub mod Sizes
 pub mod Found
 pub mod Examples

@@ -3,6 +3,7 @@ use Rattle.std.specs.Prelude.{ℕ, ◌+◌, ◌≤◌, List, length, take, count
 use Rattle.base_core.specs.declared.token.Class.{Class}
 use Rattle.base_core.specs.declared.token.Class.TheVariants.{Punctuator}
 use Rattle.base_core.specs.declared.token.Token.{Token}
+use Rattle.base_core.specs.Limits.{most_open, most_nodes, most_depth}
 use Rattle.c_tree.specs.Tree.{ItemTree}
 use Rattle.c_tree.specs.Spelling.{spell}
 use Rattle.c_tree.specs.Nodes.{nodes}
@@ -25,6 +26,6 @@ NestsAtMost limit tokens = (k : ℕ) → count_by is_opener (take k tokens) ≤ 
 
 -- the limits of a program: brackets that are open at once, nodes, and depth
 pub record WithinLimits (items : List ItemTree) : Type 0 where
-  pub brackets : NestsAtMost 100 (spell items)
-  pub few : length (nodes items) ≤ 100000
-  pub shallow : depth items ≤ 1000
+  pub brackets : NestsAtMost most_open (spell items)
+  pub few : length (nodes items) ≤ most_nodes
+  pub shallow : depth items ≤ most_depth

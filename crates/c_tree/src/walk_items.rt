@@ -128,6 +128,9 @@ fn search_statements<'a>(all: &'a [Stmt], search: &mut Search<'a>)
     ensures { progress search.new ≡ pass_statements (progress search.old) (statements_of (map view_statement all.now)) }
 {
     for statement in all {
+        if search.found.is_some() {
+            return;
+        }
         search_statement(statement, search);
     }
 }
@@ -145,6 +148,9 @@ pub(crate) fn search_items<'a>(all: &'a [Item], search: &mut Search<'a>)
     ensures { progress search.new ≡ pass_items (progress search.old) (map view_item all.now) }
 {
     for item in all {
+        if search.found.is_some() {
+            return;
+        }
         match item {
             Item::Function(f) => search_function(f, search),
             Item::Decl(d) => search_declaration(d, search),

@@ -13,3 +13,4 @@ pub mod NoBreach
 pub mod Laws
 pub mod Walks
 pub mod Examples
+pub mod Whole

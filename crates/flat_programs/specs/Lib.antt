@@ -2,6 +2,7 @@ pub mod FlatTree
 pub mod FlatSpelling
 pub mod FlatShape
 pub mod FlatCondition
+pub mod WholeProgram
 pub mod Positions
 pub mod World
 pub mod Steps

@@ -29,6 +29,6 @@ pub use condition::are_safe;
 pub use flat::{FlatProgram, Handler, LibraryFunction, Statement};
 pub use program::{FlatFault, read_flat};
 pub use theorems::{
-    errno_is_int, getpid_changes_errno, mask_comes_back, nests_and_returns, rand_above_handler,
-    rand_in_exit, rand_over_rand, soundness,
+    errno_is_int, flat_is_whole, getpid_changes_errno, mask_comes_back, nests_and_returns,
+    rand_above_handler, rand_in_exit, rand_over_rand, soundness,
 };

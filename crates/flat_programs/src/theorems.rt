@@ -2,7 +2,13 @@
 
 ghost use Rattle.flat_programs.specs.Breaches.{NoRunBreaksARule};
 ghost use Rattle.flat_programs.specs.Examples.{RandOverRand, RandInExit, RandAboveHandler, GetpidChangesErrno, NestsAndReturns};
+ghost use Rattle.flat_programs.specs.WholeProgram.{FlatIsWhole};
 ghost use Rattle.flat_programs.specs.Laws.{MaskComesBack, ErrnoIsInt};
+
+/// A flat program is a program of the whole grammar, and spells the same tokens.
+pub fn flat_is_whole()
+    ensures { FlatIsWhole }
+{}
 
 /// Where the condition on the handlers holds, no run of the program breaks a rule.
 pub fn soundness()

@@ -20,8 +20,6 @@ mod shelf;
 mod signal;
 mod sink;
 mod std_sink;
-#[cfg(test)]
-mod tests;
 mod token;
 
 pub use fault::{Failed, NoMemory};

@@ -19,11 +19,7 @@ mod head;
 mod program;
 mod shape;
 mod statement;
-#[cfg(test)]
-mod tests;
 mod theorems;
-#[cfg(test)]
-mod tree_tests;
 
 pub use condition::are_safe;
 pub use flat::{FlatProgram, Handler, LibraryFunction, Statement};

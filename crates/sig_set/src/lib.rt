@@ -136,6 +136,3 @@ impl SigSet {
         self.mask & !o.mask == 0
     }
 }
-
-#[cfg(test)]
-mod tests;

@@ -1,4 +1,5 @@
-use super::*;
+use base_core::Sig;
+use sig_set::SigSet;
 use std::test::Fail;
 
 /// The set of the signals of these numbers.

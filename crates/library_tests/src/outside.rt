@@ -1,4 +1,4 @@
-use crate::{
+use base_core::{
     Failed, FileShelf, Lexeme, MemShelf, MemSink, ReadError, Shelf, Sig, Sink, WriteError,
 };
 use std::test::Fail;

@@ -1,6 +1,6 @@
-use crate::{FlatFault, FlatProgram, LibraryFunction, Statement, read_flat};
 use base_core::Sig;
 use c_lexer::scan;
+use flat_programs::{FlatFault, FlatProgram, LibraryFunction, Statement, read_flat};
 use std::alloc::Global;
 use std::process::Abort;
 use std::test::Fail;

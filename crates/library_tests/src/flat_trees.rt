@@ -1,5 +1,5 @@
-use crate::{FlatProgram, Handler, LibraryFunction, Statement};
 use base_core::Sig;
+use flat_programs::{FlatProgram, Handler, LibraryFunction, Statement};
 use std::test::Fail;
 
 #[test]

@@ -1,0 +1,14 @@
+//! Tests of the libraries' public calls. They stand in a crate of their own, above the libraries, so that no library is
+//! proved twice for its tests.
+#![tactic(auto)]
+
+#[cfg(test)]
+mod flat_reading;
+#[cfg(test)]
+mod flat_trees;
+#[cfg(test)]
+mod outside;
+#[cfg(test)]
+mod program_nodes;
+#[cfg(test)]
+mod signal_sets;

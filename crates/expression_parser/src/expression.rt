@@ -78,8 +78,7 @@ impl<
         rise(cursor)?;
         spend(cursor, 2, d + 2)?;
         cursor.take();
-        let found = self.expression(cursor, d + 1, least, 0)?;
-        Ok(Boxed::new(self.alloc, found)?)
+        self.expression(cursor, d + 1, least, 0)
     }
 
     /// Both choices behind a condition.
@@ -98,10 +97,7 @@ impl<
         let first = self.expression(cursor, d + 1, 1, 0)?;
         expect(cursor, Kind::Colon)?;
         let other = self.expression(cursor, d + 1, 3, 0)?;
-        Ok((
-            Boxed::new(self.alloc, first)?,
-            Boxed::new(self.alloc, other)?,
-        ))
+        Ok((first, other))
     }
 
     /// A subscript in its brackets.
@@ -115,7 +111,7 @@ impl<
         cursor.take();
         let found = self.expression(cursor, d + 1, 1, 0)?;
         expect(cursor, Kind::CloseBracket)?;
-        Ok(Boxed::new(self.alloc, found)?)
+        Ok(found)
     }
 
     /// Arguments in their brackets.
@@ -154,23 +150,24 @@ impl<
         &self,
         cursor: &mut Cursor<'_>,
         d: u32,
-        first: Expr,
+        first: Boxed<Expr>,
     ) -> Result<Items<Expr>, Refusal>
         requires nests { Nests self.now.budget (F.pre self.now.read) (F.post self.now.read) }
         requires small { d ≤ 1001 }
         ensures { Gives (λ xs. expressions_of (map view_expression xs)) (mapped (expressions (view_expression first)) (read (more_arguments self.now.types.now d) cursor.old)) result cursor.new }
     {
         let mut found = Items::new(self.alloc);
-        found.push(first)?;
+        found.push(first.into_inner())?;
         while same_kind(cursor.kind(), Kind::Comma) {
-            found.push(self.another(cursor, d)?)?;
+            let next = self.another(cursor, d)?;
+            found.push(next.into_inner())?;
         }
         expect(cursor, Kind::CloseParen)?;
         Ok(found)
     }
 
     /// One more argument, behind a comma.
-    fn another(&self, cursor: &mut Cursor<'_>, d: u32) -> Result<Expr, Refusal>
+    fn another(&self, cursor: &mut Cursor<'_>, d: u32) -> Result<Boxed<Expr>, Refusal>
         requires nests { Nests self.now.budget (F.pre self.now.read) (F.post self.now.read) }
         requires small { d ≤ 1001 }
         ensures { Gives view_expression (perform (another self.now.types.now d) cursor.old) result cursor.new }
@@ -212,12 +209,12 @@ impl<
         d: u32,
         left: Boxed<Expr>,
         sign: Infix,
-    ) -> Result<Expr, Refusal>
+    ) -> Result<Boxed<Expr>, Refusal>
         requires nests { Nests self.now.budget (F.pre self.now.read) (F.post self.now.read) }
         requires small { d ≤ 1001 }
         ensures { Gives view_expression (extended self.now.types.now d (view_expression left) (view_infix (Some sign)) cursor.old) result cursor.new }
     {
-        Ok(match sign {
+        let found = match sign {
             Infix::Comma => Expr::Comma(left, self.right_operand(cursor, d, 2)?),
             Infix::Assign(op) => Expr::Assign(op, left, self.right_operand(cursor, d, 2)?),
             Infix::Question => {
@@ -235,38 +232,45 @@ impl<
                 self.stepped(cursor, d)?;
                 Expr::After(op, left)
             }
-        })
+        };
+        Ok(Boxed::new(self.alloc, found)?)
     }
 
     /// How an expression goes on behind what was read of it.
-    pub fn rest(&self, cursor: &mut Cursor<'_>, d: u32, least: u8, x: Expr) -> Result<Expr, Refusal>
+    pub fn rest(
+        &self,
+        cursor: &mut Cursor<'_>,
+        d: u32,
+        least: u8,
+        x: Boxed<Expr>,
+    ) -> Result<Boxed<Expr>, Refusal>
         requires nests { Nests self.now.budget (F.pre self.now.read) (F.post self.now.read) }
         requires small { d ≤ 1001 }
         ensures { Gives view_expression (read (a_rest self.now.types.now d least (view_expression x)) cursor.old) result cursor.new }
     {
         let mut left = x;
-        while let Some(sign) = infix_behind(least, kind(self.types, cursor), level(&left)) {
-            left = self.extended(cursor, d, Boxed::new(self.alloc, left)?, sign)?;
+        while let Some(sign) = infix_behind(least, kind(self.types, cursor), level(left.get())) {
+            left = self.extended(cursor, d, left, sign)?;
         }
         Ok(left)
     }
 
     /// The operand of `sizeof` that begins with a bracket, which was read.
     #[tactic(auto, using(crate::proofs::Opens::opened_performs, c_tree::proofs::ViewLemmas::view_Expr_Paren))]
-    fn opened(&self, cursor: &mut Cursor<'_>, d: u32) -> Result<Expr, Refusal>
+    fn opened(&self, cursor: &mut Cursor<'_>, d: u32) -> Result<Boxed<Expr>, Refusal>
         requires nests { Nests self.now.budget (F.pre self.now.read) (F.post self.now.read) }
         requires small { d ≤ 1000 }
         ensures { Gives view_expression (read (an_opened self.now.types.now d) cursor.old) result cursor.new }
     {
         let inner = self.expression(cursor, d + 1, 1, 2)?;
         expect(cursor, Kind::CloseParen)?;
-        let operand = Expr::Paren(Boxed::new(self.alloc, inner)?);
+        let operand = Boxed::new(self.alloc, Expr::Paren(inner))?;
         self.rest(cursor, d, 15, operand)
     }
 
     /// Behind an open bracket: a type and an operand, or an expression.
     #[tactic(auto, using(c_tree::proofs::ViewLemmas::view_Expr_Cast, c_tree::proofs::ViewLemmas::view_Expr_Paren))]
-    fn bracketed(&self, cursor: &mut Cursor<'_>, d: u32, least: u8) -> Result<Expr, Refusal>
+    fn bracketed(&self, cursor: &mut Cursor<'_>, d: u32, least: u8) -> Result<Boxed<Expr>, Refusal>
         requires nests { Nests self.now.budget (F.pre self.now.read) (F.post self.now.read) }
         requires small { d ≤ 1000 }
         ensures { Gives view_expression (perform (look self.now.types.now.names (opened_by self.now.types.now d least)) cursor.old) result cursor.new }
@@ -275,20 +279,17 @@ impl<
             let ty = self.type_name(cursor, d + 1)?;
             expect(cursor, Kind::CloseParen)?;
             let operand = self.expression(cursor, d + 1, 14, 0)?;
-            Ok(Expr::Cast(
-                Boxed::new(self.alloc, ty)?,
-                Boxed::new(self.alloc, operand)?,
-            ))
+            Ok(Boxed::new(self.alloc, Expr::Cast(ty, operand))?)
         } else {
             let inner = self.expression(cursor, d + 1, 1, 0)?;
             expect(cursor, Kind::CloseParen)?;
-            Ok(Expr::Paren(Boxed::new(self.alloc, inner)?))
+            Ok(Boxed::new(self.alloc, Expr::Paren(inner))?)
         }
     }
 
     /// Behind `sizeof` and an open bracket: a type, or an operand that begins with the bracket.
     #[tactic(auto, using(c_tree::proofs::ViewLemmas::view_Expr_SizeOfType, c_tree::proofs::ViewLemmas::view_Expr_SizeOf))]
-    fn sized(&self, cursor: &mut Cursor<'_>, d: u32) -> Result<Expr, Refusal>
+    fn sized(&self, cursor: &mut Cursor<'_>, d: u32) -> Result<Boxed<Expr>, Refusal>
         requires nests { Nests self.now.budget (F.pre self.now.read) (F.post self.now.read) }
         requires small { d ≤ 999 }
         ensures { Gives view_expression (perform (look self.now.types.now.names (sized_by self.now.types.now d)) cursor.old) result cursor.new }
@@ -296,18 +297,18 @@ impl<
         if begins_type(kind(self.types, cursor)) {
             let ty = self.type_name(cursor, d + 1)?;
             expect(cursor, Kind::CloseParen)?;
-            Ok(Expr::SizeOfType(Boxed::new(self.alloc, ty)?))
+            Ok(Boxed::new(self.alloc, Expr::SizeOfType(ty))?)
         } else {
             let outer = cursor.enter(d + 2);
             let operand = self.opened(cursor, d + 1)?;
             cursor.leave(outer);
-            Ok(Expr::SizeOf(Boxed::new(self.alloc, operand)?))
+            Ok(Boxed::new(self.alloc, Expr::SizeOf(operand))?)
         }
     }
 
     /// Behind `sizeof`.
     #[tactic(auto, using(c_tree::proofs::ViewLemmas::view_Expr_SizeOf))]
-    fn size_of(&self, cursor: &mut Cursor<'_>, d: u32) -> Result<Expr, Refusal>
+    fn size_of(&self, cursor: &mut Cursor<'_>, d: u32) -> Result<Boxed<Expr>, Refusal>
         requires nests { Nests self.now.budget (F.pre self.now.read) (F.post self.now.read) }
         requires small { d ≤ 999 }
         ensures { Gives view_expression (perform (look self.now.types.now.names (sizeof_by self.now.types.now d)) cursor.old) result cursor.new }
@@ -319,7 +320,7 @@ impl<
             }
             _ => {
                 let operand = self.expression(cursor, d + 1, 15, 1)?;
-                Ok(Expr::SizeOf(Boxed::new(self.alloc, operand)?))
+                Ok(Boxed::new(self.alloc, Expr::SizeOf(operand))?)
             }
         }
     }
@@ -339,13 +340,18 @@ impl<
     {
         spend(cursor, owed + 1, d + 2)?;
         cursor.take();
-        let found = self.expression(cursor, d + 1, least, 0)?;
-        Ok(Boxed::new(self.alloc, found)?)
+        self.expression(cursor, d + 1, least, 0)
     }
 
     /// The first operand.
     #[tactic(auto, using(crate::proofs::Beginning::prefix_begins, c_tree::proofs::ViewLemmas::view_Expr_Name, c_tree::proofs::ViewLemmas::view_Expr_Integer, c_tree::proofs::ViewLemmas::view_Expr_Character, c_tree::proofs::ViewLemmas::view_Expr_Text, c_tree::proofs::ViewLemmas::view_Expr_Before, c_tree::proofs::ViewLemmas::view_Expr_Unary))]
-    fn prefix(&self, cursor: &mut Cursor<'_>, d: u32, least: u8, owed: u32) -> Result<Expr, Refusal>
+    fn prefix(
+        &self,
+        cursor: &mut Cursor<'_>,
+        d: u32,
+        least: u8,
+        owed: u32,
+    ) -> Result<Boxed<Expr>, Refusal>
         requires nests { Nests self.now.budget (F.pre self.now.read) (F.post self.now.read) }
         requires small { d ≤ 1001 }
         requires few { owed ≤ 1000 }
@@ -354,7 +360,7 @@ impl<
         let Some(first) = first_of_operand(kind(self.types, cursor)) else {
             return Err(refused(cursor));
         };
-        Ok(match first {
+        let found = match first {
             First::Word => Expr::Name(leaf(self.alloc, cursor, d, owed)?),
             First::Number => Expr::Integer(leaf(self.alloc, cursor, d, owed)?),
             First::Character => Expr::Character(leaf(self.alloc, cursor, d, owed)?),
@@ -362,21 +368,28 @@ impl<
             First::Open => {
                 spend(cursor, owed + 1, d + 2)?;
                 cursor.take();
-                self.bracketed(cursor, d, least)?
+                return self.bracketed(cursor, d, least);
             }
             First::Sizeof => {
                 spend(cursor, owed, d + 1)?;
                 cursor.take();
-                self.size_of(cursor, d)?
+                return self.size_of(cursor, d);
             }
             First::Step(op) => Expr::Before(op, self.operand(cursor, d, owed, 15)?),
             First::Unary(op) => Expr::Unary(op, self.operand(cursor, d, owed, 14)?),
-        })
+        };
+        Ok(Boxed::new(self.alloc, found)?)
     }
 
     /// An operand and what is behind it.
     #[tactic(auto, using(crate::proofs::Opens::whole_performs))]
-    fn whole(&self, cursor: &mut Cursor<'_>, d: u32, least: u8, owed: u32) -> Result<Expr, Refusal>
+    fn whole(
+        &self,
+        cursor: &mut Cursor<'_>,
+        d: u32,
+        least: u8,
+        owed: u32,
+    ) -> Result<Boxed<Expr>, Refusal>
         requires nests { Nests self.now.budget (F.pre self.now.read) (F.post self.now.read) }
         requires small { d ≤ 1001 }
         requires few { owed ≤ 1000 }
@@ -394,7 +407,7 @@ impl<
         d: u32,
         least: u8,
         owed: u32,
-    ) -> Result<Expr, Refusal>
+    ) -> Result<Boxed<Expr>, Refusal>
         requires nests { Nests self.now.budget (F.pre self.now.read) (F.post self.now.read) }
         requires small { d ≤ 1001 }
         requires few { owed ≤ 1000 }

@@ -11,7 +11,7 @@ use crate::refusal::Refusal;
 use c_grammar::Cursor;
 use c_tree::{Expr, Member, Params, TypeName};
 use program_scope::Names;
-use sqlite_items::Items;
+use sqlite_items::{Boxed, Items};
 use std::alloc::Global;
 use std::marker::Model;
 
@@ -67,8 +67,8 @@ pub enum Nested {
 
 #[derive(Drop)]
 pub enum Found {
-    Expression(Expr),
-    TypeName(TypeName),
+    Expression(Boxed<Expr>),
+    TypeName(Boxed<TypeName>),
     Members(Items<Member>),
     Parameters(Params),
 }
@@ -93,7 +93,7 @@ impl<
         d: u32,
         least: u8,
         owed: u32,
-    ) -> Result<Expr, Refusal>
+    ) -> Result<Boxed<Expr>, Refusal>
         requires nests { Nests self.now.budget (F.pre self.now.read) (F.post self.now.read) }
         requires small { d ≤ 1001 }
         requires few { owed ≤ 1000 }
@@ -113,7 +113,7 @@ impl<
     }
 
     /// The name of a type.
-    pub fn type_name(&self, cursor: &mut Cursor<'_>, d: u32) -> Result<TypeName, Refusal>
+    pub fn type_name(&self, cursor: &mut Cursor<'_>, d: u32) -> Result<Boxed<TypeName>, Refusal>
         requires nests { Nests self.now.budget (F.pre self.now.read) (F.post self.now.read) }
         requires small { d ≤ 1001 }
         ensures { Gives view_type (read (a_type self.now.types.now d) cursor.old) result cursor.new }

@@ -7,8 +7,8 @@ use Rattle.expression_parser.specs.Lists.{mapped}
 use Rattle.expression_parser.proofs.Loops.{Loop}
 use Rattle.expression_parser.proofs.grammar.Grammar.more_arguments.Given as goal
 
-abbrev pub invariant-loop-found : goal.invariant-loop-found
-invariant-loop-found g l = Loop expressions (map view_expression l.found) (read (more_arguments l.self.types.now l.d) l.cursor) (mapped (expressions (view_expression l.fn.first)) (read (more_arguments l.fn.self.types.now l.fn.d) l.fn.cursor))
+abbrev pub invariant-loop-cursor : goal.invariant-loop-cursor
+invariant-loop-cursor g l = Loop expressions (map view_expression l.found) (read (more_arguments l.self.types.now l.d) l.cursor) (mapped (expressions (view_expression l.fn.first)) (read (more_arguments l.fn.self.types.now l.fn.d) l.fn.cursor))
 
-abbrev pub decreases-loop-found : goal.decreases-loop-found
-decreases-loop-found g l = length l.cursor.rest
+abbrev pub decreases-loop-cursor : goal.decreases-loop-cursor
+decreases-loop-cursor g l = length l.cursor.rest

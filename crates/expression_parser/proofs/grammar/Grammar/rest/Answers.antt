@@ -1,11 +1,9 @@
-use Rattle.std.proofs.Common.{◌≡◌, Some, refl, sym, subst, ◌∙◌, arith, rules}
+use Rattle.std.proofs.Common.{◌≡◌, Some, refl, sym, ◌∙◌, arith, rules}
 use Rattle.std.proofs.lemmas.Grind.{common_steps}
 use Rattle.c_tree.specs.ExpressionShape.{level}
 use Rattle.c_tree.specs.View.{view_expression}
-use Rattle.c_grammar.specs.Body.{got}
 use Rattle.c_grammar.specs.Kind.{kind}
 use Rattle.c_grammar.specs.Rules.{infix_of}
-use Rattle.expression_parser.specs.Extending.{extended}
 use Rattle.expression_parser.specs.Infixes.{goes_on_with, view_infix}
 use Rattle.expression_parser.proofs.Extending.{rest_extends, rest_fails, rest_ends, extended_shorter}
 use Rattle.expression_parser.proofs.grammar.Grammar.rest.Goals as goal
@@ -27,8 +25,7 @@ loop-sign-smaller g c =
 pub loop-sign-preserved : goal.loop-sign-preserved
 loop-sign-preserved g c =
     let is : goes_on_with c.args.least (infix_of (kind c.args.self.now.types.now.names c.loop-sign.cursor.rest)) (level (view_expression c.loop-sign.left)) ≡ view_infix (Some c.in-Some.sign) = cc in
-    let b : c.in_ok-new.field-0 ≡ c.loop-sign.left = cc (c.in_ok-new.ensures) in
-    let e = subst (λ z. extended c.args.self.now.types.now c.args.d (view_expression z) (view_infix (Some c.in-Some.sign)) c.loop-sign.cursor ≡ got (view_expression c.in_ok-left.left) c.extended.new.cursor.rest c.extended.new.cursor.meter) b c.in_ok-left.ensures in
+    let e = c.in_ok-left.ensures in
     sym (rest_extends c.args.self.now.types.now c.args.d c.args.least (view_expression c.loop-sign.left) (view_expression c.in_ok-left.left) c.loop-sign.cursor c.extended.new.cursor c.in-Some.sign is e) ∙ c.loop-sign.invariant
 
 pub returns : goal.returns

@@ -1,5 +1,6 @@
 -- How the nodes and the depth of a tree are counted while it is read, and the limits on them.
 use Rattle.std.specs.Prelude.{ℕ, ◌+◌, max, Bool, ◌&&◌, nat_le, Option, Some, None, if◌then◌else◌}
+use Rattle.base_core.specs.Limits.{most_nodes, most_depth}
 use Rattle.c_grammar.specs.Body.{Gauge}
 
 -- nothing is counted
@@ -27,9 +28,9 @@ left m y = record { made = y.made; peak = max m.peak y.peak }
 abbrev pub counted : Gauge Meter
 counted = record { spends = λ n d m. Some (added n d m); rises = λ m. Some (raised m); enters = entered; leaves = left }
 
--- within the limits of a program: 100,000 nodes and depth 1,000
+-- within the limits of a program
 abbrev pub fits : Meter → Bool
-fits m = nat_le m.made 100000 && nat_le m.peak 1000
+fits m = nat_le m.made most_nodes && nat_le m.peak most_depth
 
 abbrev pub within : Meter → Option Meter
 within m = if fits m then Some m else None

@@ -1,7 +1,8 @@
 -- Kinds of tokens, as the rules of the grammar tell them apart (C11 6.4.1 and 6.4.6).
-use Rattle.std.specs.Prelude.{ℕ, ◌==◌, List, [], ◌∷◌, length, Bool, Option, Some, None, if◌then◌else◌, codes}
+use Rattle.std.specs.Prelude.{ℕ, ◌≡◌, ◌==◌, List, [], ◌∷◌, length, map, Bool, Option, Some, None, if◌then◌else◌, codes}
 use Rattle.std.specs.Str.{bytes_eq}
 use denote.Enum.Bare.{sameb}
+use Rattle.base_core.specs.Keywords as lexis
 use Rattle.base_core.specs.declared.token.Class.{Class}
 use Rattle.base_core.specs.declared.token.Class.TheVariants as class
 use Rattle.base_core.specs.declared.token.Token.{Token}
@@ -115,6 +116,10 @@ marks =
 
 abbrev pub text_of : Kind → Name
 text_of k = (token_of k []).lexeme
+
+-- the keywords that the rules tell apart are the keywords of the subset, in that order (C11 6.4.1)
+abbrev pub KeywordsAreThoseOfTheLexis : Type 0
+KeywordsAreThoseOfTheLexis = map text_of keywords ≡ lexis.keywords
 
 -- the first of these kinds that has this text
 abbrev pub among : List Kind → Name → Kind

@@ -8,7 +8,7 @@ use c_tree::{AssignOp, BinaryOp, StepOp, UnaryOp};
 
 /// What a token is to the grammar (C11 6.4): a keyword or a punctuator, or the class of a token with a text of its own. A
 /// name that is a type at its place is a `TypeName`.
-#[derive(Clone, Copy, Debug, PartialEq, Eq)]
+#[derive(Clone, Copy, PartialEq, Eq)]
 pub enum Kind {
     /// No token: the end of the text.
     Nothing,

@@ -5,6 +5,7 @@
 //! in `proofs/`, say that what is read is a tree of its shape that the tokens spell (`Programs.antt`: `found`), that each tree
 //! is read back from its tokens (`CompleteItems.antt`), and that no program goes on with a token that is refused
 //! (`refused_means`, `exceeded_means`). From them follows [`equal_spellings_are_equal_trees`].
+//! [`keywords_are_those_of_the_lexis`] says that the kinds of keywords are the scanner's keywords.
 //!
 //! A [`Cursor`] is the input as code reads it, and [`Kind`] the kinds of tokens that the rules tell apart. The crate stands on
 //! `base_core` and `c_tree`.
@@ -13,11 +14,9 @@
 mod cursor;
 mod kind;
 mod law;
-#[cfg(test)]
-mod tests;
 
 pub use cursor::Cursor;
 pub use kind::{
     Kind, assignment_operator, binary_operator, kind_of, same_kind, step_operator, unary_operator,
 };
-pub use law::equal_spellings_are_equal_trees;
+pub use law::{equal_spellings_are_equal_trees, keywords_are_those_of_the_lexis};

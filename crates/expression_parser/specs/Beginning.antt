@@ -1,11 +1,12 @@
 -- What the first operand is read as, by what it begins with.
 use Rattle.std.specs.Prelude.{ℕ, ◌+◌, List, ◌∷◌}
-use Rattle.c_tree.specs.Tree.{Name, Expression, name, integer, character, text, before, unary}
+use Rattle.c_tree.specs.Tree.{Name, Expression, name, integer, character, text, before, unary, cast, paren, size_of_type}
+use Rattle.c_grammar.specs.declared.kind.Kind.TheVariants as k
 use Rattle.c_grammar.specs.Body.{done, look, take, spend, Outcome, refused}
 use Rattle.c_grammar.specs.Body as body
 use Rattle.c_grammar.specs.Gauge.{Meter}
 use Rattle.c_grammar.specs.Input.{Input}
-use Rattle.c_grammar.specs.Rules.{Types, Reads, skip, an_expression, more_texts, opened_by, sizeof_by, First, no_operand, a_word, a_number, a_character, a_text, an_open, a_sizeof, a_step, a_unary}
+use Rattle.c_grammar.specs.Rules.{Types, Reads, skip, expect, an_expression, a_type, more_texts, opened_by, sizeof_by, First, no_operand, a_word, a_number, a_character, a_text, an_open, a_sizeof, a_step, a_unary}
 use Rattle.expression_parser.specs.Lists.{mapped}
 use Rattle.expression_parser.specs.Performing.{perform}
 
@@ -21,13 +22,33 @@ words d owed = spend owed (d + 1) (take (λ n. body.call more_texts (λ ns. done
 abbrev pub operand : Types → ℕ → ℕ → ℕ → Reads Expression
 operand t d owed least = spend (owed + 1) (d + 2) (skip (body.call (an_expression t (d + 1) least 0) done))
 
+-- a type that ends a bracket, and the operand that is turned to it
+abbrev pub turned : Types → ℕ → Reads Expression
+turned t d = body.call (a_type t (d + 1)) (λ y. expect k.CloseParen (body.call (an_expression t (d + 1) 14 0) (λ x. done (cast y x))))
+
+-- an expression that ends a bracket
+abbrev pub closed : Types → ℕ → Reads Expression
+closed t d = body.call (an_expression t (d + 1) 1 0) (λ x. expect k.CloseParen (done (paren x)))
+
+-- an open bracket, and what it holds
+abbrev pub bracketed : Types → ℕ → ℕ → ℕ → Reads Expression
+bracketed t d owed least = spend (owed + 1) (d + 2) (skip (look t.names (opened_by t d least)))
+
+-- a type that ends the bracket behind sizeof
+abbrev pub type_sized : Types → ℕ → Reads Expression
+type_sized t d = body.call (a_type t (d + 1)) (λ y. expect k.CloseParen (done (size_of_type y)))
+
+-- sizeof, and what is behind it
+abbrev pub size_of : Types → ℕ → ℕ → Reads Expression
+size_of t d owed = spend owed (d + 1) (skip (look t.names (sizeof_by t d)))
+
 abbrev pub begun : Types → ℕ → ℕ → ℕ → First → Input → Outcome Meter Expression
 begun t d least owed no_operand i = refused i.rest
 begun t d least owed a_word i = mapped (λ n. name n) (perform (leaf d owed) i)
 begun t d least owed a_number i = mapped (λ n. integer n) (perform (leaf d owed) i)
 begun t d least owed a_character i = mapped (λ n. character n) (perform (leaf d owed) i)
 begun t d least owed a_text i = mapped (λ ns. text ns) (perform (words d owed) i)
-begun t d least owed an_open i = perform (spend (owed + 1) (d + 2) (skip (look t.names (opened_by t d least)))) i
-begun t d least owed a_sizeof i = perform (spend owed (d + 1) (skip (look t.names (sizeof_by t d)))) i
+begun t d least owed an_open i = perform (bracketed t d owed least) i
+begun t d least owed a_sizeof i = perform (size_of t d owed) i
 begun t d least owed (a_step o) i = mapped (before o) (perform (operand t d owed 15) i)
 begun t d least owed (a_unary o) i = mapped (unary o) (perform (operand t d owed 14) i)

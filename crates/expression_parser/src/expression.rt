@@ -1,12 +1,12 @@
 //! Expressions: an operand, and how it goes on with operators.
 
 ghost use Rattle.std.specs.Prelude.{◌≡◌, ◌≤◌, ◌∷◌, Some, map};
-ghost use Rattle.c_tree.specs.Tree.{expressions};
+ghost use Rattle.c_tree.specs.Tree.{expressions, choose, index, call, dot, arrow, after};
 ghost use Rattle.c_tree.specs.View.{view_expression, expressions_of};
 ghost use Rattle.c_grammar.specs.Body.{look};
 ghost use Rattle.c_grammar.specs.Reading.{read};
-ghost use Rattle.c_grammar.specs.Rules.{an_expression, a_whole, a_prefix, a_rest, an_opened, more_texts, all_arguments, more_arguments, opened_by, sized_by, sizeof_by};
-ghost use Rattle.expression_parser.specs.Beginning.{leaf, words, operand};
+ghost use Rattle.c_grammar.specs.Rules.{an_expression, a_whole, a_prefix, a_rest, an_opened, more_texts, all_arguments, more_arguments, sized_by};
+ghost use Rattle.expression_parser.specs.Beginning.{leaf, words, operand, turned, closed, bracketed, type_sized, size_of};
 ghost use Rattle.expression_parser.specs.Extending.{extended, right_operand, choices, subscript, arguments, another, member_name, stepped};
 ghost use Rattle.expression_parser.specs.Gives.{Gives};
 ghost use Rattle.expression_parser.specs.Infixes.{view_infix};
@@ -82,14 +82,16 @@ impl<
     }
 
     /// Both choices behind a condition.
-    fn choices(
+    #[tactic(auto, using(c_tree::proofs::ViewLemmas::view_Expr_Choose))]
+    fn chosen(
         &self,
         cursor: &mut Cursor<'_>,
         d: u32,
-    ) -> Result<(Boxed<Expr>, Boxed<Expr>), Refusal>
+        test: Boxed<Expr>,
+    ) -> Result<Boxed<Expr>, Refusal>
         requires nests { Nests self.now.budget (F.pre self.now.read) (F.post self.now.read) }
         requires small { d ≤ 1001 }
-        ensures { Gives (λ p. (view_expression p.0, view_expression p.1)) (perform (choices self.now.types.now d) cursor.old) result cursor.new }
+        ensures { Gives view_expression (mapped (λ p. choose (view_expression test) p.0 p.1) (perform (choices self.now.types.now d) cursor.old)) result cursor.new }
     {
         rise(cursor)?;
         spend(cursor, 3, d + 2)?;
@@ -97,33 +99,46 @@ impl<
         let first = self.expression(cursor, d + 1, 1, 0)?;
         expect(cursor, Kind::Colon)?;
         let other = self.expression(cursor, d + 1, 3, 0)?;
-        Ok((first, other))
+        Ok(Boxed::new(self.alloc, Expr::Choose(test, first, other))?)
     }
 
     /// A subscript in its brackets.
-    fn subscript(&self, cursor: &mut Cursor<'_>, d: u32) -> Result<Boxed<Expr>, Refusal>
+    #[tactic(auto, using(c_tree::proofs::ViewLemmas::view_Expr_Index))]
+    fn indexed(
+        &self,
+        cursor: &mut Cursor<'_>,
+        d: u32,
+        array: Boxed<Expr>,
+    ) -> Result<Boxed<Expr>, Refusal>
         requires nests { Nests self.now.budget (F.pre self.now.read) (F.post self.now.read) }
         requires small { d ≤ 1001 }
-        ensures { Gives view_expression (perform (subscript self.now.types.now d) cursor.old) result cursor.new }
+        ensures { Gives view_expression (mapped (index (view_expression array)) (perform (subscript self.now.types.now d) cursor.old)) result cursor.new }
     {
         rise(cursor)?;
         spend(cursor, 2, d + 2)?;
         cursor.take();
         let found = self.expression(cursor, d + 1, 1, 0)?;
         expect(cursor, Kind::CloseBracket)?;
-        Ok(found)
+        Ok(Boxed::new(self.alloc, Expr::Index(array, found))?)
     }
 
     /// Arguments in their brackets.
-    fn arguments(&self, cursor: &mut Cursor<'_>, d: u32) -> Result<Items<Expr>, Refusal>
+    #[tactic(auto, using(c_tree::proofs::ViewLemmas::view_Expr_Call))]
+    fn called(
+        &self,
+        cursor: &mut Cursor<'_>,
+        d: u32,
+        function: Boxed<Expr>,
+    ) -> Result<Boxed<Expr>, Refusal>
         requires nests { Nests self.now.budget (F.pre self.now.read) (F.post self.now.read) }
         requires small { d ≤ 1001 }
-        ensures { Gives (λ xs. expressions_of (map view_expression xs)) (perform (arguments self.now.types.now d) cursor.old) result cursor.new }
+        ensures { Gives view_expression (mapped (call (view_expression function)) (perform (arguments self.now.types.now d) cursor.old)) result cursor.new }
     {
         rise(cursor)?;
         spend(cursor, 1, d + 1)?;
         cursor.take();
-        self.all_arguments(cursor, d + 1)
+        let found = self.all_arguments(cursor, d + 1)?;
+        Ok(Boxed::new(self.alloc, Expr::Call(function, found))?)
     }
 
     /// Arguments with the closing bracket.
@@ -189,20 +204,59 @@ impl<
         name(self.alloc, self.types, cursor)
     }
 
-    /// `++` or `--` behind its operand.
-    fn stepped(&self, cursor: &mut Cursor<'_>, d: u32) -> Result<(), Refusal>
+    /// A member behind a point.
+    #[tactic(auto, using(c_tree::proofs::ViewLemmas::view_Expr_Dot))]
+    fn dotted(
+        &self,
+        cursor: &mut Cursor<'_>,
+        d: u32,
+        value: Boxed<Expr>,
+    ) -> Result<Boxed<Expr>, Refusal>
         requires nests { Nests self.now.budget (F.pre self.now.read) (F.post self.now.read) }
         requires small { d ≤ 1001 }
-        ensures { Gives (λ u. u) (perform (stepped d) cursor.old) result cursor.new }
+        ensures { Gives view_expression (mapped (dot (view_expression value)) (perform (member_name self.now.types.now d) cursor.old)) result cursor.new }
+    {
+        let member = self.member_name(cursor, d)?;
+        Ok(Boxed::new(self.alloc, Expr::Dot(value, member))?)
+    }
+
+    /// A member behind an arrow.
+    #[tactic(auto, using(c_tree::proofs::ViewLemmas::view_Expr_Arrow))]
+    fn pointed(
+        &self,
+        cursor: &mut Cursor<'_>,
+        d: u32,
+        pointer: Boxed<Expr>,
+    ) -> Result<Boxed<Expr>, Refusal>
+        requires nests { Nests self.now.budget (F.pre self.now.read) (F.post self.now.read) }
+        requires small { d ≤ 1001 }
+        ensures { Gives view_expression (mapped (arrow (view_expression pointer)) (perform (member_name self.now.types.now d) cursor.old)) result cursor.new }
+    {
+        let member = self.member_name(cursor, d)?;
+        Ok(Boxed::new(self.alloc, Expr::Arrow(pointer, member))?)
+    }
+
+    /// `++` or `--` behind its operand.
+    #[tactic(auto, using(c_tree::proofs::ViewLemmas::view_Expr_After))]
+    fn stepped(
+        &self,
+        cursor: &mut Cursor<'_>,
+        d: u32,
+        op: StepOp,
+        value: Boxed<Expr>,
+    ) -> Result<Boxed<Expr>, Refusal>
+        requires nests { Nests self.now.budget (F.pre self.now.read) (F.post self.now.read) }
+        requires small { d ≤ 1001 }
+        ensures { Gives view_expression (mapped (λ u. after op (view_expression value)) (perform (stepped d) cursor.old)) result cursor.new }
     {
         rise(cursor)?;
         spend(cursor, 1, d + 1)?;
         cursor.take();
-        Ok(())
+        Ok(Boxed::new(self.alloc, Expr::After(op, value))?)
     }
 
     /// What an operator makes of the expression before it.
-    #[tactic(auto, using(c_tree::proofs::ViewLemmas::view_Expr_Comma, c_tree::proofs::ViewLemmas::view_Expr_Assign, c_tree::proofs::ViewLemmas::view_Expr_Choose, c_tree::proofs::ViewLemmas::view_Expr_Binary, c_tree::proofs::ViewLemmas::view_Expr_Index, c_tree::proofs::ViewLemmas::view_Expr_Call, c_tree::proofs::ViewLemmas::view_Expr_Dot, c_tree::proofs::ViewLemmas::view_Expr_Arrow, c_tree::proofs::ViewLemmas::view_Expr_After))]
+    #[tactic(auto, using(c_tree::proofs::ViewLemmas::view_Expr_Comma, c_tree::proofs::ViewLemmas::view_Expr_Assign, c_tree::proofs::ViewLemmas::view_Expr_Binary))]
     fn extended(
         &self,
         cursor: &mut Cursor<'_>,
@@ -217,21 +271,15 @@ impl<
         let found = match sign {
             Infix::Comma => Expr::Comma(left, self.right_operand(cursor, d, 2)?),
             Infix::Assign(op) => Expr::Assign(op, left, self.right_operand(cursor, d, 2)?),
-            Infix::Question => {
-                let (first, other) = self.choices(cursor, d)?;
-                Expr::Choose(left, first, other)
-            }
             Infix::Operator(op) => {
                 Expr::Binary(op, left, self.right_operand(cursor, d, op_level(op) + 1)?)
             }
-            Infix::Index => Expr::Index(left, self.subscript(cursor, d)?),
-            Infix::Call => Expr::Call(left, self.arguments(cursor, d)?),
-            Infix::Dot => Expr::Dot(left, self.member_name(cursor, d)?),
-            Infix::Arrow => Expr::Arrow(left, self.member_name(cursor, d)?),
-            Infix::Step(op) => {
-                self.stepped(cursor, d)?;
-                Expr::After(op, left)
-            }
+            Infix::Question => return self.chosen(cursor, d, left),
+            Infix::Index => return self.indexed(cursor, d, left),
+            Infix::Call => return self.called(cursor, d, left),
+            Infix::Dot => return self.dotted(cursor, d, left),
+            Infix::Arrow => return self.pointed(cursor, d, left),
+            Infix::Step(op) => return self.stepped(cursor, d, op, left),
         };
         Ok(Boxed::new(self.alloc, found)?)
     }
@@ -268,36 +316,74 @@ impl<
         self.rest(cursor, d, 15, operand)
     }
 
-    /// Behind an open bracket: a type and an operand, or an expression.
-    #[tactic(auto, using(c_tree::proofs::ViewLemmas::view_Expr_Cast, c_tree::proofs::ViewLemmas::view_Expr_Paren))]
-    fn bracketed(&self, cursor: &mut Cursor<'_>, d: u32, least: u8) -> Result<Boxed<Expr>, Refusal>
+    /// A type, which ends a bracket, and the operand that is turned to it.
+    #[tactic(auto, using(c_tree::proofs::ViewLemmas::view_Expr_Cast))]
+    fn turned(&self, cursor: &mut Cursor<'_>, d: u32) -> Result<Boxed<Expr>, Refusal>
         requires nests { Nests self.now.budget (F.pre self.now.read) (F.post self.now.read) }
         requires small { d ≤ 1000 }
-        ensures { Gives view_expression (perform (look self.now.types.now.names (opened_by self.now.types.now d least)) cursor.old) result cursor.new }
+        ensures { Gives view_expression (perform (turned self.now.types.now d) cursor.old) result cursor.new }
     {
+        let ty = self.type_name(cursor, d + 1)?;
+        expect(cursor, Kind::CloseParen)?;
+        let operand = self.expression(cursor, d + 1, 14, 0)?;
+        Ok(Boxed::new(self.alloc, Expr::Cast(ty, operand))?)
+    }
+
+    /// An expression, which ends a bracket.
+    #[tactic(auto, using(c_tree::proofs::ViewLemmas::view_Expr_Paren))]
+    fn closed(&self, cursor: &mut Cursor<'_>, d: u32) -> Result<Boxed<Expr>, Refusal>
+        requires nests { Nests self.now.budget (F.pre self.now.read) (F.post self.now.read) }
+        requires small { d ≤ 1000 }
+        ensures { Gives view_expression (perform (closed self.now.types.now d) cursor.old) result cursor.new }
+    {
+        let inner = self.expression(cursor, d + 1, 1, 0)?;
+        expect(cursor, Kind::CloseParen)?;
+        Ok(Boxed::new(self.alloc, Expr::Paren(inner))?)
+    }
+
+    /// An open bracket, and what it holds: a type and an operand, or an expression.
+    fn bracketed(
+        &self,
+        cursor: &mut Cursor<'_>,
+        d: u32,
+        owed: u32,
+        least: u8,
+    ) -> Result<Boxed<Expr>, Refusal>
+        requires nests { Nests self.now.budget (F.pre self.now.read) (F.post self.now.read) }
+        requires small { d ≤ 1001 }
+        requires few { owed ≤ 1000 }
+        ensures { Gives view_expression (perform (bracketed self.now.types.now d owed least) cursor.old) result cursor.new }
+    {
+        spend(cursor, owed + 1, d + 2)?;
+        cursor.take();
         if begins_type(kind(self.types, cursor)) && least <= 14 {
-            let ty = self.type_name(cursor, d + 1)?;
-            expect(cursor, Kind::CloseParen)?;
-            let operand = self.expression(cursor, d + 1, 14, 0)?;
-            Ok(Boxed::new(self.alloc, Expr::Cast(ty, operand))?)
+            self.turned(cursor, d)
         } else {
-            let inner = self.expression(cursor, d + 1, 1, 0)?;
-            expect(cursor, Kind::CloseParen)?;
-            Ok(Boxed::new(self.alloc, Expr::Paren(inner))?)
+            self.closed(cursor, d)
         }
     }
 
+    /// A type, which ends the bracket behind `sizeof`.
+    #[tactic(auto, using(c_tree::proofs::ViewLemmas::view_Expr_SizeOfType))]
+    fn type_sized(&self, cursor: &mut Cursor<'_>, d: u32) -> Result<Boxed<Expr>, Refusal>
+        requires nests { Nests self.now.budget (F.pre self.now.read) (F.post self.now.read) }
+        requires small { d ≤ 999 }
+        ensures { Gives view_expression (perform (type_sized self.now.types.now d) cursor.old) result cursor.new }
+    {
+        let ty = self.type_name(cursor, d + 1)?;
+        expect(cursor, Kind::CloseParen)?;
+        Ok(Boxed::new(self.alloc, Expr::SizeOfType(ty))?)
+    }
+
     /// Behind `sizeof` and an open bracket: a type, or an operand that begins with the bracket.
-    #[tactic(auto, using(c_tree::proofs::ViewLemmas::view_Expr_SizeOfType, c_tree::proofs::ViewLemmas::view_Expr_SizeOf))]
+    #[tactic(auto, using(c_tree::proofs::ViewLemmas::view_Expr_SizeOf))]
     fn sized(&self, cursor: &mut Cursor<'_>, d: u32) -> Result<Boxed<Expr>, Refusal>
         requires nests { Nests self.now.budget (F.pre self.now.read) (F.post self.now.read) }
         requires small { d ≤ 999 }
         ensures { Gives view_expression (perform (look self.now.types.now.names (sized_by self.now.types.now d)) cursor.old) result cursor.new }
     {
         if begins_type(kind(self.types, cursor)) {
-            let ty = self.type_name(cursor, d + 1)?;
-            expect(cursor, Kind::CloseParen)?;
-            Ok(Boxed::new(self.alloc, Expr::SizeOfType(ty))?)
+            self.type_sized(cursor, d)
         } else {
             let outer = cursor.enter(d + 2);
             let operand = self.opened(cursor, d + 1)?;
@@ -306,13 +392,15 @@ impl<
         }
     }
 
-    /// Behind `sizeof`.
+    /// `sizeof`, and what is behind it.
     #[tactic(auto, using(c_tree::proofs::ViewLemmas::view_Expr_SizeOf))]
-    fn size_of(&self, cursor: &mut Cursor<'_>, d: u32) -> Result<Boxed<Expr>, Refusal>
+    fn size_of(&self, cursor: &mut Cursor<'_>, d: u32, owed: u32) -> Result<Boxed<Expr>, Refusal>
         requires nests { Nests self.now.budget (F.pre self.now.read) (F.post self.now.read) }
-        requires small { d ≤ 999 }
-        ensures { Gives view_expression (perform (look self.now.types.now.names (sizeof_by self.now.types.now d)) cursor.old) result cursor.new }
+        requires small { d ≤ 1001 }
+        ensures { Gives view_expression (perform (size_of self.now.types.now d owed) cursor.old) result cursor.new }
     {
+        spend(cursor, owed, d + 1)?;
+        cursor.take();
         match kind(self.types, cursor) {
             Kind::OpenParen => {
                 cursor.take();
@@ -365,16 +453,8 @@ impl<
             First::Number => Expr::Integer(leaf(self.alloc, cursor, d, owed)?),
             First::Character => Expr::Character(leaf(self.alloc, cursor, d, owed)?),
             First::Text => Expr::Text(words(self.alloc, cursor, d, owed)?),
-            First::Open => {
-                spend(cursor, owed + 1, d + 2)?;
-                cursor.take();
-                return self.bracketed(cursor, d, least);
-            }
-            First::Sizeof => {
-                spend(cursor, owed, d + 1)?;
-                cursor.take();
-                return self.size_of(cursor, d);
-            }
+            First::Open => return self.bracketed(cursor, d, owed, least),
+            First::Sizeof => return self.size_of(cursor, d, owed),
             First::Step(op) => Expr::Before(op, self.operand(cursor, d, owed, 15)?),
             First::Unary(op) => Expr::Unary(op, self.operand(cursor, d, owed, 14)?),
         };

@@ -4,7 +4,7 @@ use base_core::NoMemory;
 use std::alloc::AllocError;
 
 /// Why a rule reads nothing.
-#[derive(Clone, Copy, Debug, PartialEq, Eq)]
+#[derive(Clone, Copy)]
 pub enum Refusal {
     /// No rule goes on with the next token; so many tokens are left.
     Syntax(usize),

@@ -7,6 +7,8 @@ mod flat_reading;
 #[cfg(test)]
 mod flat_trees;
 #[cfg(test)]
+mod grammar_cursor;
+#[cfg(test)]
 mod outside;
 #[cfg(test)]
 mod program_nodes;

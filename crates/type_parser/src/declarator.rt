@@ -17,7 +17,7 @@ use c_tree::{Bare, Declarator, Expr, Quals, Stars};
 use expression_parser::grammar::{Found, Grammar, Nested, Types};
 use expression_parser::refusal::Refusal;
 use expression_parser::steps::{expect, kind, new_kind, refused, word};
-use sqlite_items::Items;
+use sqlite_items::{Boxed, Items};
 use std::alloc::Global;
 
 /// A size in its brackets, or the brackets alone.
@@ -37,7 +37,7 @@ fn bracketed<
         _ => {
             let size = grammar.expression(cursor, d, 3, 1)?;
             expect(cursor, Kind::CloseBracket)?;
-            Ok(Some(size))
+            Ok(Some(size.into_inner()))
         }
     }
 }
@@ -88,27 +88,28 @@ pub fn declared<
     may_be_function: bool,
     stars: Stars,
     name: Lexeme,
-) -> Result<Declarator, Refusal>
+) -> Result<Boxed<Declarator>, Refusal>
     requires nests { Nests grammar.now.budget (F.pre grammar.now.read) (F.post grammar.now.read) }
     requires small { d ≤ 1001 }
     ensures { Gives view_declarator (perform (look [] (declared_by grammar.now.types.now d may_be_function stars name)) cursor.old) result cursor.new }
 {
-    match cursor.kind() {
+    let found = match cursor.kind() {
         Kind::OpenBracket => {
             let sizes = sizes(grammar, cursor, d)?;
-            Ok(Declarator::Array(stars, name, sizes))
+            Declarator::Array(stars, name, sizes)
         }
         Kind::OpenParen => {
             if may_be_function {
                 cursor.take();
                 let params = grammar.parameters(cursor, d)?;
-                Ok(Declarator::Function(stars, name, params))
+                Declarator::Function(stars, name, params)
             } else {
-                Ok(Declarator::Plain(stars, name))
+                Declarator::Plain(stars, name)
             }
         }
-        _ => Ok(Declarator::Plain(stars, name)),
-    }
+        _ => Declarator::Plain(stars, name),
+    };
+    Ok(Boxed::new(grammar.alloc, found)?)
 }
 
 /// Behind the name of a pointer to a function.
@@ -122,7 +123,7 @@ pub fn pointed<
     stars: Stars,
     quals: Quals,
     name: Lexeme,
-) -> Result<Declarator, Refusal>
+) -> Result<Boxed<Declarator>, Refusal>
     requires nests { Nests grammar.now.budget (F.pre grammar.now.read) (F.post grammar.now.read) }
     requires small { d ≤ 1001 }
     ensures { Gives view_declarator (perform (pointed grammar.now.types.now d stars quals name) cursor.old) result cursor.new }
@@ -131,7 +132,8 @@ pub fn pointed<
     expect(cursor, Kind::CloseParen)?;
     expect(cursor, Kind::OpenParen)?;
     let params = grammar.parameters(cursor, d)?;
-    Ok(Declarator::Pointer(stars, quals, name, sizes, params))
+    let found = Declarator::Pointer(stars, quals, name, sizes, params);
+    Ok(Boxed::new(grammar.alloc, found)?)
 }
 
 /// Behind the star of a pointer to a function and its qualifiers: its name, and what follows.
@@ -141,7 +143,7 @@ fn named<F: Fn(Global, &Types<'_>, &mut Cursor<'_>, usize, u32, Nested) -> Resul
     d: u32,
     stars: Stars,
     quals: Quals,
-) -> Result<Declarator, Refusal>
+) -> Result<Boxed<Declarator>, Refusal>
     requires nests { Nests grammar.now.budget (F.pre grammar.now.read) (F.post grammar.now.read) }
     requires small { d ≤ 1001 }
     ensures { Gives view_declarator (perform (a_new_name grammar.now.types.now (pointed grammar.now.types.now d stars quals)) cursor.old) result cursor.new }
@@ -163,7 +165,7 @@ pub fn pointer<
     cursor: &mut Cursor<'_>,
     d: u32,
     stars: Stars,
-) -> Result<Declarator, Refusal>
+) -> Result<Boxed<Declarator>, Refusal>
     requires nests { Nests grammar.now.budget (F.pre grammar.now.read) (F.post grammar.now.read) }
     requires small { d ≤ 1001 }
     ensures { Gives view_declarator (perform (pointer_from grammar.now.types.now d stars) cursor.old) result cursor.new }
@@ -182,7 +184,7 @@ pub fn declarator<
     cursor: &mut Cursor<'_>,
     d: u32,
     may_be_function: bool,
-) -> Result<Declarator, Refusal>
+) -> Result<Boxed<Declarator>, Refusal>
     requires nests { Nests grammar.now.budget (F.pre grammar.now.read) (F.post grammar.now.read) }
     requires small { d ≤ 1001 }
     ensures { Gives view_declarator (read (a_declarator grammar.now.types.now d may_be_function false) cursor.old) result cursor.new }

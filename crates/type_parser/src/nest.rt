@@ -19,7 +19,7 @@ use expression_parser::grammar::{Found, Grammar, Nested, Types};
 use expression_parser::refusal::Refusal;
 use expression_parser::steps::{expect, new_kind, refused, word};
 use program_scope::Names;
-use sqlite_items::Items;
+use sqlite_items::{Boxed, Items};
 use std::alloc::{AllocError, Global};
 
 /// How often what nests may nest. The limits of a program stop it long before.
@@ -64,7 +64,7 @@ pub fn expression(
     d: u32,
     least: u8,
     owed: u32,
-) -> Result<Expr, Refusal>
+) -> Result<Boxed<Expr>, Refusal>
     requires depth { d ≤ 1001 }
     requires few { owed ≤ 1000 }
     ensures { Gives view_expression (read (an_expression types.now d least owed) cursor.old) result cursor.new }
@@ -85,8 +85,8 @@ pub fn rest(
     cursor: &mut Cursor<'_>,
     d: u32,
     least: u8,
-    x: Expr,
-) -> Result<Expr, Refusal>
+    x: Boxed<Expr>,
+) -> Result<Boxed<Expr>, Refusal>
     requires { d ≤ 1001 }
     ensures { Gives view_expression (read (a_rest types.now d least (view_expression x)) cursor.old) result cursor.new }
 {
@@ -126,7 +126,7 @@ pub fn declarator(
     cursor: &mut Cursor<'_>,
     d: u32,
     may_be_function: bool,
-) -> Result<Declarator, Refusal>
+) -> Result<Boxed<Declarator>, Refusal>
     requires { d ≤ 1001 }
     ensures { Gives view_declarator (read (a_declarator types.now d may_be_function false) cursor.old) result cursor.new }
 {
@@ -146,7 +146,7 @@ pub fn pointer(
     cursor: &mut Cursor<'_>,
     d: u32,
     stars: Stars,
-) -> Result<Declarator, Refusal>
+) -> Result<Boxed<Declarator>, Refusal>
     requires { d ≤ 1001 }
     ensures { Gives view_declarator (perform (pointer_from types.now d stars) cursor.old) result cursor.new }
 {
@@ -195,7 +195,7 @@ fn type_declared(
     d: u32,
     stars: Stars,
     name: Lexeme,
-) -> Result<Declarator, Refusal>
+) -> Result<Boxed<Declarator>, Refusal>
     requires { d ≤ 1001 }
     ensures { Gives view_declarator (perform (look [] (declared_by (inside true name types.now) d true stars name)) cursor.old) result cursor.new }
 {
@@ -219,7 +219,7 @@ fn type_pointed(
     stars: Stars,
     quals: Quals,
     name: Lexeme,
-) -> Result<Declarator, Refusal>
+) -> Result<Boxed<Declarator>, Refusal>
     requires { d ≤ 1001 }
     ensures { Gives view_declarator (perform (type_pointed types.now d stars quals name) cursor.old) result cursor.new }
 {
@@ -242,7 +242,7 @@ fn type_named(
     d: u32,
     stars: Stars,
     quals: Quals,
-) -> Result<Declarator, Refusal>
+) -> Result<Boxed<Declarator>, Refusal>
     requires { d ≤ 1001 }
     ensures { Gives view_declarator (perform (a_new_name types.now (type_pointed types.now d stars quals)) cursor.old) result cursor.new }
 {
@@ -262,7 +262,7 @@ fn type_pointer(
     cursor: &mut Cursor<'_>,
     d: u32,
     stars: Stars,
-) -> Result<Declarator, Refusal>
+) -> Result<Boxed<Declarator>, Refusal>
     requires { d ≤ 1001 }
     ensures { Gives view_declarator (perform (type_pointer_from types.now d stars) cursor.old) result cursor.new }
 {
@@ -278,7 +278,7 @@ pub fn type_declarator(
     types: &Types<'_>,
     cursor: &mut Cursor<'_>,
     d: u32,
-) -> Result<Declarator, Refusal>
+) -> Result<Boxed<Declarator>, Refusal>
     requires { d ≤ 1001 }
     ensures { Gives view_declarator (read (a_declarator types.now d true true) cursor.old) result cursor.new }
 {

@@ -17,21 +17,21 @@ use c_tree::{SpecWord, Specs, TypeName};
 use expression_parser::grammar::{Found, Grammar, Nested, Types};
 use expression_parser::refusal::Refusal;
 use expression_parser::steps::{kind, refused, spend, word};
-use sqlite_items::Items;
+use sqlite_items::{Boxed, Items};
 use std::alloc::Global;
 
 /// The type that a cast or sizeof names.
 #[tactic(auto, using(expression_parser::proofs::Opens::type_performs, c_tree::proofs::ViewLemmas::view_TypeName))]
 pub fn type_name<
     F: Fn(Global, &Types<'_>, &mut Cursor<'_>, usize, u32, Nested) -> Result<Found, Refusal>,
->(grammar: &Grammar<'_, F>, cursor: &mut Cursor<'_>, d: u32) -> Result<TypeName, Refusal>
+>(grammar: &Grammar<'_, F>, cursor: &mut Cursor<'_>, d: u32) -> Result<Boxed<TypeName>, Refusal>
     requires nests { Nests grammar.now.budget (F.pre grammar.now.read) (F.post grammar.now.read) }
     requires small { d ≤ 1001 }
     ensures { Gives view_type (read (a_type grammar.now.types.now d) cursor.old) result cursor.new }
 {
     let specs = specifiers(grammar, cursor, d, false)?;
     let bare = bare(grammar, cursor, d)?;
-    Ok(TypeName { specs, bare })
+    Ok(Boxed::new(grammar.alloc, TypeName { specs, bare })?)
 }
 
 /// The specifiers of one type. A name may have to follow them, unless they have a struct or an enum.

@@ -21,7 +21,7 @@ use expression_parser::grammar::{Found, Grammar, Nested, Types};
 use expression_parser::infix::begins_type;
 use expression_parser::refusal::Refusal;
 use expression_parser::steps::{expect, kind, new_kind, new_name, refused, spend, word};
-use sqlite_items::Items;
+use sqlite_items::{Boxed, Items};
 use std::alloc::Global;
 
 /// The members of a struct in their braces, behind its tag if it has one.
@@ -151,7 +151,7 @@ pub fn all_members<
 /// One more declarator of a member, behind a comma.
 fn another_declarator<
     F: Fn(Global, &Types<'_>, &mut Cursor<'_>, usize, u32, Nested) -> Result<Found, Refusal>,
->(grammar: &Grammar<'_, F>, cursor: &mut Cursor<'_>, d: u32) -> Result<Declarator, Refusal>
+>(grammar: &Grammar<'_, F>, cursor: &mut Cursor<'_>, d: u32) -> Result<Boxed<Declarator>, Refusal>
     requires nests { Nests grammar.now.budget (F.pre grammar.now.read) (F.post grammar.now.read) }
     requires small { d ≤ 1001 }
     ensures { Gives view_declarator (perform (another_declarator grammar.now.types.now d) cursor.old) result cursor.new }
@@ -168,16 +168,17 @@ fn more_declarators<
     grammar: &Grammar<'_, F>,
     cursor: &mut Cursor<'_>,
     d: u32,
-    first: Declarator,
+    first: Boxed<Declarator>,
 ) -> Result<Items<Declarator>, Refusal>
     requires nests { Nests grammar.now.budget (F.pre grammar.now.read) (F.post grammar.now.read) }
     requires small { d ≤ 1001 }
     ensures { Gives (λ cs. declarators_of (map view_declarator cs)) (mapped (declarators (view_declarator first)) (read (more_declarators grammar.now.types.now d) cursor.old)) result cursor.new }
 {
     let mut found = Items::new(grammar.alloc);
-    found.push(first)?;
+    found.push(first.into_inner())?;
     while same_kind(cursor.kind(), Kind::Comma) {
-        found.push(another_declarator(grammar, cursor, d)?)?;
+        let next = another_declarator(grammar, cursor, d)?;
+        found.push(next.into_inner())?;
     }
     Ok(found)
 }
@@ -260,8 +261,8 @@ fn behind_comma(
     types: &Types<'_>,
     cursor: &mut Cursor<'_>,
     d: u32,
-    found: Enumerator,
-) -> Result<(Enumerator, Option<bool>), Refusal>
+    found: Boxed<Enumerator>,
+) -> Result<(Boxed<Enumerator>, Option<bool>), Refusal>
     requires small { d ≤ 1001 }
     ensures { Gives (λ p. (view_enumerator p.0, p.1)) (perform (look (barred types.now) (next_by types.now d (view_enumerator found))) cursor.old) result cursor.new }
 {
@@ -283,8 +284,8 @@ fn behind_enumerator(
     types: &Types<'_>,
     cursor: &mut Cursor<'_>,
     d: u32,
-    found: Enumerator,
-) -> Result<(Enumerator, Option<bool>), Refusal>
+    found: Boxed<Enumerator>,
+) -> Result<(Boxed<Enumerator>, Option<bool>), Refusal>
     requires small { d ≤ 1001 }
     ensures { Gives (λ p. (view_enumerator p.0, p.1)) (perform (look [] (behind_enumerator_by types.now d (view_enumerator found))) cursor.old) result cursor.new }
 {
@@ -308,7 +309,7 @@ fn value<F: Fn(Global, &Types<'_>, &mut Cursor<'_>, usize, u32, Nested) -> Resul
     cursor: &mut Cursor<'_>,
     d: u32,
     name: Lexeme,
-) -> Result<(Enumerator, Option<bool>), Refusal>
+) -> Result<(Boxed<Enumerator>, Option<bool>), Refusal>
     requires nests { Nests grammar.now.budget (F.pre grammar.now.read) (F.post grammar.now.read) }
     requires small { d ≤ 1001 }
     ensures { Gives (λ p. (view_enumerator p.0, p.1)) (perform (look [] (valued_by grammar.now.types.now d name)) cursor.old) result cursor.new }
@@ -317,12 +318,15 @@ fn value<F: Fn(Global, &Types<'_>, &mut Cursor<'_>, usize, u32, Nested) -> Resul
         Kind::Assign => {
             spend(cursor, 1, d + 2)?;
             cursor.take();
-            let value = Some(grammar.expression(cursor, d + 1, 3, 0)?);
-            behind_enumerator(grammar.types, cursor, d, Enumerator { name, value })
+            let value = grammar.expression(cursor, d + 1, 3, 0)?;
+            let value = Some(value.into_inner());
+            let found = Boxed::new(grammar.alloc, Enumerator { name, value })?;
+            behind_enumerator(grammar.types, cursor, d, found)
         }
         _ => {
             let value = None;
-            behind_enumerator(grammar.types, cursor, d, Enumerator { name, value })
+            let found = Boxed::new(grammar.alloc, Enumerator { name, value })?;
+            behind_enumerator(grammar.types, cursor, d, found)
         }
     }
 }
@@ -334,7 +338,7 @@ fn enumerator<
     grammar: &Grammar<'_, F>,
     cursor: &mut Cursor<'_>,
     d: u32,
-) -> Result<(Enumerator, Option<bool>), Refusal>
+) -> Result<(Boxed<Enumerator>, Option<bool>), Refusal>
     requires nests { Nests grammar.now.budget (F.pre grammar.now.read) (F.post grammar.now.read) }
     requires small { d ≤ 1001 }
     ensures { Gives (λ p. (view_enumerator p.0, p.1)) (perform (one_enumerator grammar.now.types.now d) cursor.old) result cursor.new }
@@ -358,7 +362,7 @@ fn enumerators<
     let mut found = Items::new(grammar.alloc);
     loop {
         let (next, last) = enumerator(grammar, cursor, d)?;
-        found.push(next)?;
+        found.push(next.into_inner())?;
         match last {
             Some(comma) => return Ok((found, comma)),
             None => {}

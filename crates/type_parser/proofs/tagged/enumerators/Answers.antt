@@ -1,4 +1,4 @@
-use Rattle.std.proofs.Common.{◌≡◌, map, Some, None, refl, subst}
+use Rattle.std.proofs.Common.{◌≡◌, [], ◌∷◌, ◌++◌, map, Some, None, refl, subst}
 use Rattle.c_tree.specs.Tree.{no_enumerators}
 use Rattle.c_tree.specs.View.{view_enumerator, enumerators_of}
 use Rattle.c_grammar.specs.Body.{got}
@@ -19,7 +19,7 @@ returns-in-Some g c =
     let e = subst (λ z. perform (one_enumerator c.args.grammar.now.types.now c.args.d) c.loop-found.cursor ≡ got (view_enumerator c.in_ok-next.next, z) c.enumerator.new.cursor.rest c.enumerator.new.cursor.meter) b c.in_ok-next.ensures in
     loop_ends (λ z. z) (no_enumerators, c.in-Some.comma) (enumerators_of (map view_enumerator c.push.new.self), c.in-Some.comma) c.enumerator.new.cursor
     (loop_turn (map view_enumerator c.push.new.self) c.loop-found.invariant (enumerators_last c.args.grammar.now.types.now c.args.d c.loop-found.cursor c.enumerator.new.cursor (view_enumerator c.in_ok-next.next) c.in-Some.comma e)
-    (pushed view_enumerator c.loop-found.found c.push.new.self c.in_ok-next.next c.in_ok-push.ensures.ok))
+    (pushed view_enumerator c.loop-found.found c.push.new.self c.in_ok-next.next (subst (λ x. c.push.new.self ≡ c.loop-found.found ++ x ∷ []) c.into_inner.ensures c.in_ok-push.ensures.ok)))
     refl (enumerators_none (map view_enumerator c.push.new.self) c.in-Some.comma)
 
 pub loop-found-smaller : goal.loop-found-smaller
@@ -31,4 +31,4 @@ loop-found-preserved g c =
     let b : c.in_ok-next.last ≡ None = cc in
     let e = subst (λ z. perform (one_enumerator c.args.grammar.now.types.now c.args.d) c.loop-found.cursor ≡ got (view_enumerator c.in_ok-next.next, z) c.enumerator.new.cursor.rest c.enumerator.new.cursor.meter) b c.in_ok-next.ensures in
     loop_turn (map view_enumerator c.push.new.self) c.loop-found.invariant (enumerators_turn c.args.grammar.now.types.now c.args.d c.loop-found.cursor c.enumerator.new.cursor (view_enumerator c.in_ok-next.next) e)
-    (pushed view_enumerator c.loop-found.found c.push.new.self c.in_ok-next.next c.in_ok-push.ensures.ok)
+    (pushed view_enumerator c.loop-found.found c.push.new.self c.in_ok-next.next (subst (λ x. c.push.new.self ≡ c.loop-found.found ++ x ∷ []) c.into_inner.ensures c.in_ok-push.ensures.ok))

@@ -7,8 +7,8 @@ use Rattle.expression_parser.specs.Lists.{mapped}
 use Rattle.expression_parser.proofs.Loops.{Loop}
 use Rattle.type_parser.proofs.tagged.more_declarators.Given as goal
 
-abbrev pub invariant-loop-found : goal.invariant-loop-found
-invariant-loop-found g l = Loop declarators (map view_declarator l.found) (read (more_declarators l.grammar.types.now l.d) l.cursor) (mapped (declarators (view_declarator l.fn.first)) (read (more_declarators l.fn.grammar.types.now l.fn.d) l.fn.cursor))
+abbrev pub invariant-loop-cursor : goal.invariant-loop-cursor
+invariant-loop-cursor g l = Loop declarators (map view_declarator l.found) (read (more_declarators l.grammar.types.now l.d) l.cursor) (mapped (declarators (view_declarator l.fn.first)) (read (more_declarators l.fn.grammar.types.now l.fn.d) l.fn.cursor))
 
-abbrev pub decreases-loop-found : goal.decreases-loop-found
-decreases-loop-found g l = length l.cursor.rest
+abbrev pub decreases-loop-cursor : goal.decreases-loop-cursor
+decreases-loop-cursor g l = length l.cursor.rest

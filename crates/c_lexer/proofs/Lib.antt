@@ -6,3 +6,4 @@ pub mod Readiness
 pub mod Wholes
 pub mod Stands
 pub mod FaultFiles
+pub mod OnlyTokens

@@ -1,5 +1,6 @@
 -- What the scanner keeps from step to step.
 use Rattle.std.proofs.Common.{◌≡◌, ℕ, ◌+◌, ◌-◌, ◌≤◌, length, take, drop, length-take-le, length-drop, refl, sym, ◌∙◌, subst, ap, arith}
+use Rattle.base_core.specs.Limits.{most_bytes}
 use Rattle.c_lexer.specs.Bytes.{Text}
 use Rattle.c_lexer.specs.Lexis.{Progress, start}
 use Rattle.c_lexer.specs.Progress.{IsReady}
@@ -18,7 +19,7 @@ ready_front p z text n is within ready =
     let taken = length-take-le n z within in
     record { line = omega (arith, ready.line); column = omega (arith, ready.column); files = omega (arith, ready.files); paired = ready.paired }
 
-pub ready_start : (n : ℕ) → n ≤ 1048576 → IsReady start n
+pub ready_start : (n : ℕ) → n ≤ most_bytes → IsReady start n
 ready_start n within = record { line = omega arith; column = omega arith; files = omega arith; paired = refl }
 
 pub ready_rest : (p : Progress) (z text : Text) (n : ℕ) → text ≡ drop n z → IsReady p (length z - n) → IsReady p (length text)

@@ -2,9 +2,9 @@
 use Rattle.std.specs.Prelude.{◌≡◌, true, false, [], ◌∷◌, slice_index}
 use Rattle.base_core.specs.declared.token.Class.{Class}
 use Rattle.base_core.specs.declared.token.Class.TheVariants.{Keyword, Name, Integer, Punctuator}
+use Rattle.base_core.specs.Keywords.{is_keyword}
 use Rattle.c_lexer.specs.Bytes.{Text, is_letter, is_in, all_in, is_among}
 use Rattle.c_lexer.specs.Integers.{spoils}
-use Rattle.c_lexer.specs.Names.{is_keyword}
 use Rattle.c_lexer.specs.Punctuators.{of_one, of_two, of_three}
 use Rattle.c_lexer.specs.declared.bytes.ByteClass.TheVariants.{Word}
 

@@ -13,3 +13,4 @@ pub mod Lexis
 pub mod Grammar
 pub mod Progress
 pub mod FaultFile
+pub mod Faults

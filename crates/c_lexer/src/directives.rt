@@ -6,8 +6,8 @@ ghost use Rattle.c_lexer.specs.Directives as spec;
 
 use crate::bytes::{ByteClass, all_in, back, byte, front, past_blanks, run};
 use crate::item::{Item, Refusal};
-use crate::names::is_among;
 use crate::numbers::value_up_to;
+use base_core::is_among;
 
 const INCLUDE: &[u8] = b"include";
 

@@ -22,3 +22,36 @@ pub enum LexFault {
     #[error("not enough memory")]
     NoMemory,
 }
+
+impl LexFault {
+    ghost use Rattle.std.specs.Prelude.{◌≡◌};
+    ghost use Rattle.c_lexer.specs.Faults.{place_of, kind_of};
+
+    /// Where the fault lies; None exactly at want of memory.
+    pub fn place(self) -> Option<Place>
+        ensures { result ≡ place_of self }
+    {
+        match self {
+            LexFault::BadByte(place)
+            | LexFault::OpenComment(place)
+            | LexFault::OpenLiteral(place)
+            | LexFault::NumberTooLarge(place)
+            | LexFault::Directive(place) => Some(place),
+            LexFault::NoMemory => None,
+        }
+    }
+
+    /// The word for its kind, as it is printed: the name of its variant.
+    pub fn kind(self) -> &'static str
+        ensures { result.now ≡ kind_of self }
+    {
+        match self {
+            LexFault::BadByte(_) => "BadByte",
+            LexFault::OpenComment(_) => "OpenComment",
+            LexFault::OpenLiteral(_) => "OpenLiteral",
+            LexFault::NumberTooLarge(_) => "NumberTooLarge",
+            LexFault::Directive(_) => "Directive",
+            LexFault::NoMemory => "NoMemory",
+        }
+    }
+}

@@ -2,6 +2,7 @@
 
 ghost use Rattle.std.specs.Prelude.{◌≡◌, ◌≤◌, ℕ, length, map, string_bytes, IfOk};
 ghost use Rattle.std.specs.Option.{option_map, option_copied};
+ghost use Rattle.base_core.specs.Limits.{most_bytes};
 ghost use Rattle.c_lexer.specs.FaultFile.{file_named, fault_file};
 
 use crate::bytes::back;
@@ -36,10 +37,10 @@ fn copied(alloc: Global, name: Option<&str>) -> Result<Option<String>, NoMemory>
     }
 }
 
-/// The file in which the first fault of a text of at most 1,048,576 bytes lies, as the line marker before it names it.
-/// None exactly where the text has no fault, or it lies in the command's own file.
+/// The file in which the first fault of a text of at most `base_core::MOST_BYTES` bytes lies, as the line marker before it
+/// names it. None exactly where the text has no fault, or it lies in the command's own file.
 pub fn fault_file(alloc: Global, text: &[u8]) -> Result<Option<String>, NoMemory>
-    requires { length text.now ≤ 1_048_576 }
+    requires { length text.now ≤ most_bytes }
     ensures { IfOk result (λ name. option_map string_bytes name ≡ fault_file text.now) }
 {
     let mut scanner = Scanner::new(alloc);

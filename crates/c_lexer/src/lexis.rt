@@ -1,6 +1,7 @@
 //! A text becomes its tokens.
 
 ghost use Rattle.std.specs.Prelude.{◌≡◌, ◌≤◌, length, IfOk};
+ghost use Rattle.base_core.specs.Limits.{most_bytes};
 ghost use Rattle.c_lexer.specs.Grammar.{AreTokensOf};
 ghost use Rattle.c_lexer.specs.Lexis.{lexis, Gives};
 
@@ -10,9 +11,10 @@ use crate::scanner::Scanner;
 use crate::tokens::Tokens;
 use std::alloc::Global;
 
-/// The tokens of a text, or its first fault.
+/// The tokens of a text of at most `base_core::MOST_BYTES` bytes, or its first fault (C11 6.4); `NoMemory` alone is free to
+/// come at any text.
 pub fn scan(alloc: Global, text: &[u8]) -> Result<Tokens, LexFault>
-    requires { length text.now ≤ 1_048_576 }
+    requires { length text.now ≤ most_bytes }
     ensures exact { Gives result (lexis text.now) }
     ensures stands { IfOk result (λ found. AreTokensOf found.tokens text.now) }
 {

@@ -13,7 +13,7 @@ loop-rest-init c =
     record {
       same = ap (λ p. rest p text) c.new-scanner.ensures ∙ lexis_starts text;
       ready = subst (λ p. IsReady p (length text)) (sym c.new-scanner.ensures) (ready_start (length text) c.requires);
-      keeps = keeps_start text c.new-scanner.result.tokens.items (ap (λ (p : Progress). p.tokens) c.new-scanner.ensures);
+      keeps = keeps_start text c.new-scanner.result.tokens.items c.new-scanner.result.fresh (ap (λ (p : Progress). p.tokens) c.new-scanner.ensures) (ap (λ (p : Progress). p.fresh) c.new-scanner.ensures);
     }
 
 pub returns-in-Err-clause-exact : goal.returns-in-Err-clause-exact
@@ -45,4 +45,4 @@ pub returns-clause-stands : goal.returns-clause-stands
 returns-clause-stands c =
     let z = c.loop-rest.rest.now in
     let empty : length z ≡ 0 = grind (arith, nat_tests) in
-    keeps_end c.args.text.now c.loop-rest.scanner.tokens.items z empty c.loop-rest.invariant.keeps
+    keeps_end c.args.text.now c.loop-rest.scanner.tokens.items c.loop-rest.scanner.fresh z empty c.loop-rest.invariant.keeps

@@ -1,6 +1,6 @@
 use Rattle.std.proofs.Common.{◌≤◌, rules, sym, ap, ◌∙◌, arith}
 use Rattle.std.proofs.lemmas.Grind.{common_steps}
-use Rattle.c_lexer.specs.Names.{is_keyword}
+use Rattle.base_core.specs.Keywords.{is_keyword}
 use Rattle.c_lexer.proofs.Wholes.{word_whole}
 use Rattle.c_lexer.proofs.names.name.Goals as goal
 

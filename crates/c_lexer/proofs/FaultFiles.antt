@@ -3,7 +3,7 @@ use Rattle.std.proofs.Common.{◌≡◌, ℕ, zero, suc, ◌-◌, ◌≤◌, [],
 use Rattle.c_lexer.specs.Bytes.{Text}
 use Rattle.c_lexer.specs.First.{first}
 use Rattle.c_lexer.specs.Lexis.{Progress, step, start, refused, moved, after}
-use Rattle.c_lexer.specs.FaultFile.{file_named, here_or_later, fault_file_from, fault_file_behind, fault_file}
+use Rattle.c_lexer.specs.FaultFile.{file_named, fault_file_from, fault_file_behind, fault_file}
 use Rattle.c_lexer.specs.declared.item.Item.TheVariants as item
 use Rattle.c_lexer.specs.declared.item.Refusal.{Refusal}
 use Rattle.c_lexer.specs.declared.fault.LexFault.{LexFault}

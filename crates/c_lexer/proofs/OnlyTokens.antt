@@ -3,7 +3,6 @@ use Rattle.std.proofs.Common.{◌≡◌, ℕ, ◌||◌, ◌==◌, slice_index, B
 use Rattle.std.proofs.Math.Seq.{drop-append_seam, take-append_seam}
 use Rattle.std.proofs.lemmas.Bool.{false≢true}
 use Rattle.base_core.specs.declared.token.Token.{Token}
-use Rattle.base_core.specs.declared.token.Class.{Class}
 use Rattle.c_lexer.specs.Bytes.{Text, is_blank}
 use Rattle.c_lexer.specs.First.{first, sign}
 use Rattle.c_lexer.specs.Punctuators.{punctuator}

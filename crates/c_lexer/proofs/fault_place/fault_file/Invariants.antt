@@ -1,7 +1,6 @@
 use Rattle.std.proofs.Common.{◌≡◌, length}
 use Rattle.c_lexer.specs.FaultFile.{fault_file_behind, fault_file}
 use Rattle.c_lexer.specs.Progress.{progress, IsReady}
-use Rattle.c_lexer.proofs.FaultFiles.{behind_goes}
 use Rattle.c_lexer.proofs.fault_place.fault_file.Given as goal
 
 abbrev pub invariant-loop-rest : goal.invariant-loop-rest

@@ -1,0 +1,4 @@
+pub mod Word
+pub mod Kind
+pub mod Matching
+pub mod View

@@ -2,3 +2,4 @@ pub mod Word
 pub mod Kind
 pub mod Matching
 pub mod View
+pub mod Weight

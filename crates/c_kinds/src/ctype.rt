@@ -1,6 +1,9 @@
-ghost use Rattle.std.specs.Prelude.{◌≡◌, map, IfOk, Some, None, length, slice_get, option_map};
+ghost use Rattle.std.specs.Prelude.{◌≡◌, ℕ, ◌+◌, ◌<◌, ◌≤◌, All, map, IfOk, Some, None, length, slice_get, option_map};
 ghost use Rattle.c_kinds.specs.Kind as kind;
 ghost use Rattle.c_kinds.specs.View.{view, view_types};
+ghost use Rattle.c_kinds.specs.Weight.{weight, weight_types, weigh};
+ghost use Rattle.c_kinds.specs.declared.ctype.CType.{size-CType};
+ghost use Rattle.c_kinds.specs.declared.ctype.Types.{size-Types};
 
 use crate::word::Word;
 use std::alloc::{AllocError, Global};
@@ -9,20 +12,27 @@ use std::rc::Rc;
 /// The type of an object or a value (C11 6.2.5, for what the subset keeps).
 #[cycle(kinds)]
 pub enum CType {
+    /// void, which has no value (6.2.5p19).
     Void,
-    /// Its width, and whether it is signed.
+    /// An integer, with its width in bits and whether it is signed (6.2.5p4, p6).
     Int(u8, bool),
+    /// A pointer to an object (6.2.5p20).
     Ptr(Rc<CType>),
-    /// The parameters and the result.
+    /// A pointer to a function, with the parameters and the result; a function's own type too (6.3.2.1p4).
     FnPtr(Types, Rc<CType>),
+    /// An array of any size, with its element (6.2.5p20).
     Array(Rc<CType>),
+    /// A structure, by its number.
     Struct(u32),
+    /// sigset_t.
     Set,
+    /// An object that the system alone looks into, as a FILE or a pthread_mutex_t.
     Kernel,
 }
 
 impl Drop for CType {
     /// Goes down what is pointed to in a loop, since a declarator may have any number of stars.
+    #[cycle(letting_go)]
     fn drop(mut self) {
         loop {
             match self {
@@ -43,9 +53,63 @@ impl Drop for CType {
 
 /// The types of parameters, in order.
 #[cycle(kinds)]
-#[derive(Drop)]
 pub struct Types {
     all: Rc<Vec<CType>>,
+}
+
+impl Drop for Types {
+    /// Keeps what is left to let go of in one list, since functions may take functions to any depth.
+    #[cycle(letting_go)]
+    fn drop(self) {
+        let Types { all } = self;
+        if let Some(mut left) = Rc::into_inner(all) {
+            while let Some(one) = left.pop() {
+                one.let_go(&mut left);
+            }
+        }
+    }
+}
+
+impl CType {
+    /// Lets go of it, but for what functions in it take and nobody else holds: that is appended to what is left.
+    #[cycle(letting_go)]
+    fn let_go(mut self, left: &mut Vec<CType>)
+        // What is left becomes less with each step, and nothing in it lies deeper than what it was taken from.
+        ensures lighter { weigh left.new.items < weigh left.old.items + weight self }
+        ensures lower { (d : ℕ) → size-CType self ≤ d → All (λ t. size-CType t < d) left.old.items → All (λ t. size-CType t < d) left.new.items }
+    {
+        loop {
+            match self {
+                CType::Ptr(to) | CType::Array(to) => match Rc::into_inner(to) {
+                    Some(rest) => self = rest,
+                    None => return,
+                },
+                CType::FnPtr(takes, to) => {
+                    takes.let_go(left);
+                    match Rc::into_inner(to) {
+                        Some(rest) => self = rest,
+                        None => return,
+                    }
+                }
+                CType::Void | CType::Int(_, _) | CType::Struct(_) | CType::Set | CType::Kernel =>
+                    return,
+            }
+        }
+    }
+}
+
+impl Types {
+    /// Appends them to what is left, where nobody else holds them. Where there is not enough memory, they are dropped.
+    #[cycle(letting_go)]
+    fn let_go(self, left: &mut Vec<CType>)
+        ensures lighter { weigh left.new.items ≤ weigh left.old.items + weight_types self }
+        ensures lower { (d : ℕ) → size-Types self ≤ d → All (λ t. size-CType t < d) left.old.items → All (λ t. size-CType t < d) left.new.items }
+    {
+        let Types { all } = self;
+        if let Some(mut all) = Rc::into_inner(all) {
+            let _dropped = left.append(&mut all);
+        }
+    }
 }
 
 impl Types {

@@ -238,3 +238,22 @@ fn a_chain_of_thirty_functions(rt: HostRuntime) -> Result<(), Fail> {
     assert!(rt; one.matches(&other) && one.agrees(&other) && takes_two(&one));
     Ok(())
 }
+
+/// A function that takes a function that takes a function .., this many deep; the innermost takes an int.
+fn nested(alloc: Global, levels: u32) -> Result<CType, AllocError> {
+    let mut inner = CType::Int(32, true);
+    for _ in 0..levels {
+        let mut takes = Vec::new(alloc);
+        takes.push(inner)?;
+        inner = CType::function(alloc, Types::new(alloc, takes)?, CType::Void)?;
+    }
+    Ok(inner)
+}
+
+#[test]
+fn functions_that_take_functions_without_end(rt: HostRuntime) -> Result<(), Fail> {
+    let one = nested(rt.alloc(), 200_000)?;
+    let other = nested(rt.alloc(), 200_000)?;
+    assert!(rt; one.matches(&other));
+    Ok(())
+}

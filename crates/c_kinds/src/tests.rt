@@ -90,60 +90,63 @@ const TABLE: [&[u8]; 20] = [
     b"ivf", b"cvf", b"iif", b"vf", b"iv*vf", b"ic**vf",
 ];
 
+/// Which type of the table, by its row, matches which, by its column.
+const MATCHES: [&[u8]; 20] = [
+    b"00000000000000000000",
+    b"01110000000000000000",
+    b"01110000000000000000",
+    b"01110000000000000000",
+    b"00001111000000000000",
+    b"00001111000000000000",
+    b"00001111000000000000",
+    b"00001111000000000000",
+    b"00001111000000000000",
+    b"00001111000000000000",
+    b"00000000001000000000",
+    b"00000000000100000000",
+    b"00000000000010000000",
+    b"00000000000000000000",
+    b"00000000000000110000",
+    b"00000000000000110000",
+    b"00000000000000001000",
+    b"00000000000000000100",
+    b"00000000000000000011",
+    b"00000000000000000011",
+];
+
+/// Which two of the table agree as the types of two declarations of one object.
+const AGREES: [&[u8]; 20] = [
+    b"00000000000000000000",
+    b"01110000000000000000",
+    b"01110000000000000000",
+    b"01110000000000000000",
+    b"00001111110000000000",
+    b"00001111110000000000",
+    b"00001111110000000000",
+    b"00001111110000000000",
+    b"00001111100000000000",
+    b"00001111010000000000",
+    b"00000000001000000000",
+    b"00000000000100000000",
+    b"00000000000010000000",
+    b"00000000000001000000",
+    b"00000000000000110000",
+    b"00000000000000110000",
+    b"00000000000000001000",
+    b"00000000000000000100",
+    b"00000000000000000011",
+    b"00000000000000000011",
+];
+
 #[test]
 fn a_table_of_pairs(rt: HostRuntime) -> Result<(), Fail> {
     let types = described(rt.alloc(), &TABLE)?;
-    assert_eq!(rt; types.len(), 20);
-    let matches: [&[u8]; 20] = [
-        b"00000000000000000000",
-        b"01110000000000000000",
-        b"01110000000000000000",
-        b"01110000000000000000",
-        b"00001111000000000000",
-        b"00001111000000000000",
-        b"00001111000000000000",
-        b"00001111000000000000",
-        b"00001111000000000000",
-        b"00001111000000000000",
-        b"00000000001000000000",
-        b"00000000000100000000",
-        b"00000000000010000000",
-        b"00000000000000000000",
-        b"00000000000000110000",
-        b"00000000000000110000",
-        b"00000000000000001000",
-        b"00000000000000000100",
-        b"00000000000000000011",
-        b"00000000000000000011",
-    ];
     assert_eq!(rt;
-        difference(types.as_slice(), &matches, Relation::Matches),
+        difference(types.as_slice(), &MATCHES, Relation::Matches),
         None
     );
-    let agrees: [&[u8]; 20] = [
-        b"00000000000000000000",
-        b"01110000000000000000",
-        b"01110000000000000000",
-        b"01110000000000000000",
-        b"00001111110000000000",
-        b"00001111110000000000",
-        b"00001111110000000000",
-        b"00001111110000000000",
-        b"00001111100000000000",
-        b"00001111010000000000",
-        b"00000000001000000000",
-        b"00000000000100000000",
-        b"00000000000010000000",
-        b"00000000000001000000",
-        b"00000000000000110000",
-        b"00000000000000110000",
-        b"00000000000000001000",
-        b"00000000000000000100",
-        b"00000000000000000011",
-        b"00000000000000000011",
-    ];
     assert_eq!(rt;
-        difference(types.as_slice(), &agrees, Relation::Agrees),
+        difference(types.as_slice(), &AGREES, Relation::Agrees),
         None
     );
     Ok(())
@@ -157,29 +160,34 @@ fn handlers(types: &[CType]) -> usize {
         .count()
 }
 
-/// Whether an array of arrays of int is read as it is to be.
-fn is_read(whole: &CType) -> bool {
+/// Whether an array of arrays of int, a copy of it and its value's type are read as they are to be.
+fn is_read(whole: &CType, copy: &CType, value: &CType) -> bool {
     let inner = whole.innermost().word();
-    match whole.target() {
-        Some(row) => row.word().is(Word::Array) && inner.is(Word::Int) && inner.is_scalar(),
-        None => false,
-    }
+    let row = whole.target().is_some_and(|row| row.word().is(Word::Array));
+    row && inner.is(Word::Int)
+        && inner.is_scalar()
+        && copy.word().has_values()
+        && !copy.word().is_pointer()
+        && value.word().is_pointer()
+        && value.word().is(whole.word().decayed())
 }
 
 #[test]
 fn a_type_is_read(rt: HostRuntime) -> Result<(), Fail> {
+    let whole = tower(rt.alloc(), 2, false)?;
+    let copy = whole.share()?;
+    let value = whole.decayed()?;
+    assert!(rt; is_read(&whole, &copy, &value));
+    Ok(())
+}
+
+#[test]
+fn a_handler_has_its_signature(rt: HostRuntime) -> Result<(), Fail> {
     let types = described(
         rt.alloc(),
         &[b"ivf", b"uvf", b"iivf", b"v*vf", b"iif", b"vf", b"i"],
     )?;
     assert_eq!(rt; handlers(types.as_slice()), 2);
-    let whole = tower(rt.alloc(), 2, false)?;
-    let again = whole.share()?;
-    let value = whole.decayed()?;
-    assert!(rt; is_read(&whole) && is_read(&again) && value.word().is(whole.word().decayed()));
-    assert!(rt;
-        value.word().is_pointer() && !again.word().is_pointer() && again.word().has_values()
-    );
     Ok(())
 }
 
@@ -196,16 +204,20 @@ fn tower(alloc: Global, height: u32, stars: bool) -> Result<CType, AllocError> {
     Ok(top)
 }
 
+/// Whether these, of any number of stars and of dimensions, are compared as they are to be.
+fn are_compared(stars: &CType, array: &CType) -> bool {
+    stars.matches(stars)
+        && stars.agrees(stars)
+        && array.agrees(array)
+        && array.target().is_some_and(|row| !array.agrees(row))
+        && array.innermost().word().is(Word::Int)
+}
+
 #[test]
 fn stars_and_dimensions_without_end(rt: HostRuntime) -> Result<(), Fail> {
     let stars = tower(rt.alloc(), 500_000, true)?;
-    let more_stars = tower(rt.alloc(), 500_000, true)?;
-    assert!(rt; stars.matches(&more_stars) && stars.agrees(&more_stars));
     let array = tower(rt.alloc(), 500_000, false)?;
-    let other_array = tower(rt.alloc(), 500_000, false)?;
-    let smaller = tower(rt.alloc(), 499_999, false)?;
-    assert!(rt; array.agrees(&other_array) && !array.agrees(&smaller));
-    assert!(rt; array.innermost().word().is(Word::Int));
+    assert!(rt; are_compared(&stars, &array));
     Ok(())
 }
 

@@ -8,7 +8,7 @@ use std::marker::Model;
 use std::mem;
 
 /// What a name stands for, and how many blocks are around the one that declares it.
-#[derive(Clone, Copy, Debug, PartialEq, Eq)]
+#[derive(Clone, Copy)]
 pub(crate) struct Entry {
     depth: usize,
     what: u32,

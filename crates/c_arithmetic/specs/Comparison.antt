@@ -1,5 +1,5 @@
 -- The order of values, and truth (C11 6.5.8, 6.5.9, 6.5.13).
-use Rattle.std.specs.Prelude.{Bool, true, false, not, if◌then◌else◌, ◌==◌, ℤ, pos, negsuc, int_lt}
+use Rattle.std.specs.Prelude.{Bool, false, not, if◌then◌else◌, ◌==◌, ℤ, pos, negsuc, int_lt}
 use Rattle.c_arithmetic.specs.declared.value.Value.{Value}
 use Rattle.c_arithmetic.specs.Types.{common}
 use Rattle.c_arithmetic.specs.Operations.{operand, is_zero}

@@ -1,5 +1,5 @@
 -- The values of a type, their representations, and conversion (C11 6.2.6.2, 6.3.1.3).
-use Rattle.std.specs.Prelude.{ℕ, ◌-◌, ◌^◌, min, Bool, true, false, ◌&&◌, if◌then◌else◌, nat_le, nat_lt, Option, Some, None, ℤ, pos, negsuc, ◌-ℤ◌, unsigned_abs}
+use Rattle.std.specs.Prelude.{ℕ, ◌-◌, ◌^◌, min, Bool, ◌&&◌, if◌then◌else◌, nat_le, nat_lt, Option, Some, None, ℤ, pos, negsuc, ◌-ℤ◌, unsigned_abs}
 use Rattle.std.specs.Int.{int_rem_euclid}
 use Rattle.c_arithmetic.specs.declared.types.IntType.{IntType}
 use Rattle.c_arithmetic.specs.Types.{long}

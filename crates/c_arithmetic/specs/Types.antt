@@ -1,5 +1,5 @@
 -- Integer types and the conversions between them that don't look at values (C11 6.2.5, 6.3.1.1, 6.3.1.8).
-use Rattle.std.specs.Prelude.{ℕ, true, false, if◌then◌else◌, nat_le, nat_lt}
+use Rattle.std.specs.Prelude.{true, false, if◌then◌else◌, nat_le, nat_lt}
 use Rattle.c_arithmetic.specs.declared.types.IntType.{IntType}
 
 -- an int has 32 bits, a long and a long long have 64, a char has 8 and a sign (5.2.4.2.1)

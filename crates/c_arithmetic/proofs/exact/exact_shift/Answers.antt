@@ -1,8 +1,4 @@
-use Rattle.std.proofs.Common.{◌≡◌, ◌≤◌, ◌^◌, ℤ, pos, ◌*ℤ◌, FitsSigned, ap, ◌∙◌, arith, unsigned_abs}
-use Rattle.std.proofs.lemmas.Int.{ints, fits_signed_mul, to_z-of_z}
-use Rattle.std.proofs.Math.Nat.{pow-le-pow_right}
-use Rattle.std.specs.Int.{w128}
-use Rattle.c_arithmetic.proofs.Whole.{seen, power_below, whole_product}
+use Rattle.c_arithmetic.proofs.Whole.{whole_product}
 use Rattle.c_arithmetic.proofs.exact.exact_shift.Goals as goal
 
 pub overflow_mul-result : goal.overflow_mul-result

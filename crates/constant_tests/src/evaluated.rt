@@ -1,6 +1,6 @@
 use crate::letters::Letters;
 use crate::read::{enumeration, enumerators, expression};
-use crate::table::ROWS;
+use crate::table;
 use c_arithmetic::{IntType, Value};
 use c_constants::{case_value, constant, enumerator};
 use c_tree::{Enumerator, Program};
@@ -53,11 +53,79 @@ fn is_right(alloc: Global, row: &str) -> bool {
     }
 }
 
-#[test]
-fn constant_expressions_have_their_values(rt: HostRuntime) {
-    for row in ROWS {
-        assert!(rt; is_right(rt.alloc(), row), "{row}");
+/// The first row that has another value than the one beside it.
+fn first_wrong(alloc: Global, rows: &str) -> Option<&str> {
+    for row in rows.lines() {
+        if !is_right(alloc, row) {
+            return Some(row);
+        }
     }
+    None
+}
+
+#[test]
+fn integers_are_right(rt: HostRuntime) {
+    assert_eq!(rt; first_wrong(rt.alloc(), table::INTEGERS), None);
+}
+
+#[test]
+fn suffixes_are_right(rt: HostRuntime) {
+    assert_eq!(rt; first_wrong(rt.alloc(), table::SUFFIXES), None);
+}
+
+#[test]
+fn characters_are_right(rt: HostRuntime) {
+    assert_eq!(rt; first_wrong(rt.alloc(), table::CHARACTERS), None);
+}
+
+#[test]
+fn unary_are_right(rt: HostRuntime) {
+    assert_eq!(rt; first_wrong(rt.alloc(), table::UNARY), None);
+}
+
+#[test]
+fn sums_are_right(rt: HostRuntime) {
+    assert_eq!(rt; first_wrong(rt.alloc(), table::SUMS), None);
+}
+
+#[test]
+fn products_are_right(rt: HostRuntime) {
+    assert_eq!(rt; first_wrong(rt.alloc(), table::PRODUCTS), None);
+}
+
+#[test]
+fn shifts_are_right(rt: HostRuntime) {
+    assert_eq!(rt; first_wrong(rt.alloc(), table::SHIFTS), None);
+}
+
+#[test]
+fn bits_are_right(rt: HostRuntime) {
+    assert_eq!(rt; first_wrong(rt.alloc(), table::BITS), None);
+}
+
+#[test]
+fn comparisons_are_right(rt: HostRuntime) {
+    assert_eq!(rt; first_wrong(rt.alloc(), table::COMPARISONS), None);
+}
+
+#[test]
+fn logic_are_right(rt: HostRuntime) {
+    assert_eq!(rt; first_wrong(rt.alloc(), table::LOGIC), None);
+}
+
+#[test]
+fn choices_are_right(rt: HostRuntime) {
+    assert_eq!(rt; first_wrong(rt.alloc(), table::CHOICES), None);
+}
+
+#[test]
+fn names_are_right(rt: HostRuntime) {
+    assert_eq!(rt; first_wrong(rt.alloc(), table::NAMES), None);
+}
+
+#[test]
+fn others_are_right(rt: HostRuntime) {
+    assert_eq!(rt; first_wrong(rt.alloc(), table::OTHERS), None);
 }
 
 /// Whether the enumerators have these values, up to the first that has none.

@@ -1,12 +1,11 @@
 -- Laws of the definitions: a conversion gives a value of the type and keeps what is one already, and the result of an operator is a
 -- value of its type.
-use Rattle.std.proofs.Common.{ℕ, zero, suc, List, ◌≡◌, ◌<◌, ◌≤◌, ◌+◌, ◌-◌, ◌%◌, ◌^◌, Bool, true, false, not, ◌&&◌, ◌||◌, cond, ltb, leb, ℤ, pos, negsuc, ◌-ℤ◌, unsigned_abs, min, refl, ap, sym, ◌∙◌, arith, IsTrue, IfSome, Option, Some, None, inl, inr, lit<, ◌/◌, ◌+ℤ◌, ◌*ℤ◌, neg_ℤ, bit_and, bit_or, bit_xor}
+use Rattle.std.proofs.Common.{ℕ, zero, suc, List, ◌≡◌, ◌<◌, ◌≤◌, ◌+◌, ◌-◌, ◌%◌, ◌^◌, Bool, true, false, not, ◌&&◌, ◌||◌, cond, ltb, leb, ℤ, pos, negsuc, ◌-ℤ◌, unsigned_abs, refl, ap, ◌∙◌, arith, IsTrue, IfSome, Option, Some, None, inl, inr, lit<, ◌/◌, ◌+ℤ◌, ◌*ℤ◌, neg_ℤ, bit_and, bit_or, bit_xor}
 use Rattle.std.specs.Prelude.{int_lt, int_div, int_rem}
 use Rattle.std.proofs.Math.Nat.{two-pow-succ, mod-eq_of_lt, mod-le, div-le_self}
 use Rattle.std.proofs.lemmas.Nat.{pow_pos, mod_below, and_le_l, or_lt, xor_lt}
 use Rattle.std.proofs.lemmas.Int.{ints}
 use Rattle.std.proofs.lemmas.Bool.{lt-ltb, le-leb, lt-leb, ltb-true, ltb-false, cases_lt, and_parts, false≢true, true≢false}
-use Rattle.std.proofs.lemmas.Bool.Decides.{nat_tests}
 use Rattle.std.specs.Int.{int_rem_euclid, int_shr}
 use Rattle.c_arithmetic.specs.declared.types.IntType.{IntType}
 use Rattle.c_arithmetic.specs.declared.value.Value.{Value}

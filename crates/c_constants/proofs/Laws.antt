@@ -9,7 +9,7 @@ use Rattle.c_arithmetic.specs.declared.types.IntType.{IntType}
 use Rattle.c_arithmetic.specs.declared.value.Value.{Value}
 use Rattle.c_arithmetic.specs.Types.{int, promoted, common}
 use Rattle.c_arithmetic.specs.Conversion.{holds}
-use Rattle.c_arithmetic.specs.Comparison.{is_less, is_equal, is_true, truth}
+use Rattle.c_arithmetic.specs.Comparison.{is_less, is_equal, is_true}
 use Rattle.c_arithmetic.proofs.Laws.{IsHeld, held-converted, held-plus, held-negated, held-complement, held-sum, held-difference, held-product, held-quotient, held-remainder, held-shifted_left, held-shifted_right, held-both_bits, held-either_bits, held-unequal_bits, held-truth, held-integer, held-character, common-wide}
 use Rattle.c_constants.specs.declared.meaning.Meaning.{Meaning}
 use Rattle.c_constants.specs.Operators as made

@@ -1,6 +1,6 @@
 -- What the operators of a constant expression make of their operands (C11 6.5.3.3, 6.5.5 to 6.5.15): the type of the result, and its
 -- value where it has one.
-use Rattle.std.specs.Prelude.{ℕ, Bool, not, ◌&&◌, ◌||◌, if◌then◌else◌, Option, Some, None, ℤ, pos}
+use Rattle.std.specs.Prelude.{not, ◌&&◌, ◌||◌, if◌then◌else◌, Option, Some, None, ℤ, pos}
 use Rattle.c_tree.specs.declared.tree.BinaryOp.{BinaryOp}
 use Rattle.c_tree.specs.declared.tree.BinaryOp.TheVariants as b
 use Rattle.c_tree.specs.declared.tree.UnaryOp.{UnaryOp}

@@ -14,4 +14,4 @@ mod operators;
 pub use constants::{case_value, constant, enumerator, meaning_of};
 pub use meaning::Meaning;
 pub use names::Names;
-pub use operators::{binary_result, binary_type};
+pub use operators::{binary_result, binary_type, unary_result};

@@ -12,7 +12,7 @@ use c_arithmetic::{
 use c_tree::{BinaryOp, UnaryOp};
 
 /// The value of an operator before a value; `None` where C leaves it undefined, or it lies outside of 64 bits with a sign.
-fn unary_result(op: UnaryOp, x: Value) -> Option<i64>
+pub fn unary_result(op: UnaryOp, x: Value) -> Option<i64>
     ensures { result ≡ spec.unary_result op x }
 {
     match op {

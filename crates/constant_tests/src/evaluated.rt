@@ -1,6 +1,6 @@
 use crate::letters::Letters;
 use crate::read::{enumeration, enumerators, expression};
-use crate::table;
+use crate::table::GROUPS;
 use c_arithmetic::{IntType, Value};
 use c_constants::{case_value, constant, enumerator};
 use c_tree::{Enumerator, Program};
@@ -64,68 +64,10 @@ fn first_wrong(alloc: Global, rows: &str) -> Option<&str> {
 }
 
 #[test]
-fn integers_are_right(rt: HostRuntime) {
-    assert_eq!(rt; first_wrong(rt.alloc(), table::INTEGERS), None);
-}
-
-#[test]
-fn suffixes_are_right(rt: HostRuntime) {
-    assert_eq!(rt; first_wrong(rt.alloc(), table::SUFFIXES), None);
-}
-
-#[test]
-fn characters_are_right(rt: HostRuntime) {
-    assert_eq!(rt; first_wrong(rt.alloc(), table::CHARACTERS), None);
-}
-
-#[test]
-fn unary_are_right(rt: HostRuntime) {
-    assert_eq!(rt; first_wrong(rt.alloc(), table::UNARY), None);
-}
-
-#[test]
-fn sums_are_right(rt: HostRuntime) {
-    assert_eq!(rt; first_wrong(rt.alloc(), table::SUMS), None);
-}
-
-#[test]
-fn products_are_right(rt: HostRuntime) {
-    assert_eq!(rt; first_wrong(rt.alloc(), table::PRODUCTS), None);
-}
-
-#[test]
-fn shifts_are_right(rt: HostRuntime) {
-    assert_eq!(rt; first_wrong(rt.alloc(), table::SHIFTS), None);
-}
-
-#[test]
-fn bits_are_right(rt: HostRuntime) {
-    assert_eq!(rt; first_wrong(rt.alloc(), table::BITS), None);
-}
-
-#[test]
-fn comparisons_are_right(rt: HostRuntime) {
-    assert_eq!(rt; first_wrong(rt.alloc(), table::COMPARISONS), None);
-}
-
-#[test]
-fn logic_are_right(rt: HostRuntime) {
-    assert_eq!(rt; first_wrong(rt.alloc(), table::LOGIC), None);
-}
-
-#[test]
-fn choices_are_right(rt: HostRuntime) {
-    assert_eq!(rt; first_wrong(rt.alloc(), table::CHOICES), None);
-}
-
-#[test]
-fn names_are_right(rt: HostRuntime) {
-    assert_eq!(rt; first_wrong(rt.alloc(), table::NAMES), None);
-}
-
-#[test]
-fn others_are_right(rt: HostRuntime) {
-    assert_eq!(rt; first_wrong(rt.alloc(), table::OTHERS), None);
+fn constant_expressions_have_their_values(rt: HostRuntime) {
+    for rows in GROUPS {
+        assert_eq!(rt; first_wrong(rt.alloc(), rows), None);
+    }
 }
 
 /// Whether the enumerators have these values, up to the first that has none.

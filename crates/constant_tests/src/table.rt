@@ -1,8 +1,25 @@
 //! Constant expressions, each with its type and value behind an arrow, or `none` where it has no value that C defines and that lies
 //! within 64 bits with a sign. unsigned is unsigned int, ulong unsigned long.
 
+/// All of them.
+pub(crate) const GROUPS: [&str; 13] = [
+    INTEGERS,
+    SUFFIXES,
+    CHARACTERS,
+    UNARY,
+    SUMS,
+    PRODUCTS,
+    SHIFTS,
+    BITS,
+    COMPARISONS,
+    LOGIC,
+    CHOICES,
+    NAMES,
+    OTHERS,
+];
+
 /// Integer constants (C11 6.4.4.1).
-pub(crate) const INTEGERS: &str = "\
+const INTEGERS: &str = "\
 0 => int 0\n\
 00 => int 0\n\
 42 => int 42\n\
@@ -25,7 +42,7 @@ pub(crate) const INTEGERS: &str = "\
 040000000000 => long 4294967296";
 
 /// Their suffixes.
-pub(crate) const SUFFIXES: &str = "\
+const SUFFIXES: &str = "\
 1u => unsigned 1\n\
 1U => unsigned 1\n\
 4294967296u => ulong 4294967296\n\
@@ -40,7 +57,7 @@ pub(crate) const SUFFIXES: &str = "\
 017L => long 15";
 
 /// Character constants (6.4.4.4).
-pub(crate) const CHARACTERS: &str = "\
+const CHARACTERS: &str = "\
 'a' => int 97\n\
 '0' => int 48\n\
 '\"' => int 34\n\
@@ -65,7 +82,7 @@ pub(crate) const CHARACTERS: &str = "\
 '\\xff' => int -1";
 
 /// Unary operators (6.5.3.3).
-pub(crate) const UNARY: &str = "\
+const UNARY: &str = "\
 +1 => int 1\n\
 +'a' => int 97\n\
 -1 => int -1\n\
@@ -91,7 +108,7 @@ pub(crate) const UNARY: &str = "\
 !0ul => int 1";
 
 /// Sums and differences (6.5.6).
-pub(crate) const SUMS: &str = "\
+const SUMS: &str = "\
 1 + 2 => int 3\n\
 2147483647 + 1 => none\n\
 m + 1 => none\n\
@@ -112,7 +129,7 @@ m + 1l => long 2147483648\n\
 -9223372036854775807 - 2 => none";
 
 /// Products, quotients and remainders (6.5.5).
-pub(crate) const PRODUCTS: &str = "\
+const PRODUCTS: &str = "\
 3 * -5 => int -15\n\
 65536 * 65536 => none\n\
 46341 * 46341 => none\n\
@@ -142,7 +159,7 @@ n / -1l => long 2147483648\n\
 -1 % 10ul => ulong 5";
 
 /// Shifts (6.5.7).
-pub(crate) const SHIFTS: &str = "\
+const SHIFTS: &str = "\
 1 << 0 => int 1\n\
 1 << 30 => int 1073741824\n\
 1 << 31 => none\n\
@@ -171,7 +188,7 @@ pub(crate) const SHIFTS: &str = "\
 0x80000000 >> 31 => unsigned 1";
 
 /// Operators on bits (6.5.10 to 6.5.12).
-pub(crate) const BITS: &str = "\
+const BITS: &str = "\
 6 & 3 => int 2\n\
 6 | 3 => int 7\n\
 6 ^ 3 => int 5\n\
@@ -187,7 +204,7 @@ pub(crate) const BITS: &str = "\
 -1 ^ 0ul => none";
 
 /// Comparisons (6.5.8, 6.5.9).
-pub(crate) const COMPARISONS: &str = "\
+const COMPARISONS: &str = "\
 -1 < 0 => int 1\n\
 -1 < 0u => int 0\n\
 -1 < 0l => int 1\n\
@@ -207,7 +224,7 @@ pub(crate) const COMPARISONS: &str = "\
 '\\377' == -1 => int 1";
 
 /// `&&` and `||` (6.5.13, 6.5.14).
-pub(crate) const LOGIC: &str = "\
+const LOGIC: &str = "\
 0 && 1/0 => int 0\n\
 1 || 1/0 => int 1\n\
 1 && 1/0 => none\n\
@@ -223,7 +240,7 @@ pub(crate) const LOGIC: &str = "\
 0 && sizeof(int) => none";
 
 /// The conditional operator (6.5.15).
-pub(crate) const CHOICES: &str = "\
+const CHOICES: &str = "\
 1 ? 2 : 3 => int 2\n\
 0 ? 2 : 3 => int 3\n\
 1 ? 2 : 1/0 => int 2\n\
@@ -242,7 +259,7 @@ pub(crate) const CHOICES: &str = "\
 -1 < (0 ? 1u : 0) => int 0";
 
 /// Several operators, and names.
-pub(crate) const NAMES: &str = "\
+const NAMES: &str = "\
 1 + 2 * 3 => int 7\n\
 (1 + 2) * 3 => int 9\n\
 1 << 2 + 1 => int 8\n\
@@ -257,7 +274,7 @@ x => none\n\
 tt => none";
 
 /// What no integer constant expression is made of.
-pub(crate) const OTHERS: &str = "\
+const OTHERS: &str = "\
 (int)1 => none\n\
 sizeof 1 => none\n\
 sizeof(int) => none\n\

@@ -1,0 +1,5 @@
+pub mod Comparison
+pub mod Conversion
+pub mod Literals
+pub mod Operations
+pub mod Types

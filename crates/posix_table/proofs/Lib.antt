@@ -1,2 +1,5 @@
 pub mod Search
 pub mod Sorted
+pub mod KnownWords
+pub mod Readable
+pub mod Parts

@@ -1,4 +1,4 @@
--- Which rows a table may hold: those of the profile, with a mark of safety of the table's own, and plain ones.
+-- Which rows a table may hold: those of the profiles, with a mark of safety of the table's own, and plain ones.
 use Rattle.std.specs.Prelude.{◌≡◌, ℕ, ◌≤◌, ◌==◌, Bool, true, false, cond, ◌⊎◌, List, [], ◌∷◌, Option, None, Some, length, IsTrue}
 use Rattle.std.specs.List.{Contains, count_by}
 use Rattle.posix_table.specs.declared.kind.Param.{Param}
@@ -6,7 +6,7 @@ use Rattle.posix_table.specs.declared.kind.Param.TheVariants.{Int, Read, Write, 
 use Rattle.posix_table.specs.declared.kind.ResultKind.TheVariants as result
 use Rattle.posix_table.specs.declared.kind.Effect.TheVariants.{Plain}
 use Rattle.posix_table.specs.declared.row.Row.{Row}
-use Rattle.posix_table.specs.Profile.{profile_rows}
+use Rattle.posix_table.specs.Profile.{profile_rows, split_row}
 
 -- the letters i, r, w, b and k
 abbrev pub is_plain : Param → Bool
@@ -44,9 +44,9 @@ pub record IsPlainRow (row : Row) : Type 0 where
   pub fewest : row.fewest ≡ fewest_plain row.parameters
   pub most : row.most ≡ most_plain row.parameters
 
--- a row of the profile, but for the mark of safety
+-- a row of the profile or that of _Fork, but for the mark of safety
 abbrev pub IsKnown : Row → Type 0
-IsKnown row = (known : Row) × Contains profile_rows known × (row ≡ record known { safe = row.safe })
+IsKnown row = (known : Row) × (Contains profile_rows known ⊎ (known ≡ split_row)) × (row ≡ record known { safe = row.safe })
 
 -- a row that a table may hold
 abbrev pub IsLawful : Row → Type 0

@@ -3,3 +3,4 @@ pub mod Profile
 pub mod Line
 pub mod Law
 pub mod Table
+pub mod Text

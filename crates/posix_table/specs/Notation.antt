@@ -1,6 +1,6 @@
 -- How the profile is written: a line has a signature, as "(i,r,i,i?) i", and the names of the functions that have it.
-use Rattle.std.specs.Prelude.{ℕ, zero, suc, ◌-◌, ◌==◌, Bool, cond, List, [], ◌∷◌, Option, None, Some, length, codes, map, unwrap_or}
-use Rattle.std.specs.List.{filter_map, count_by}
+use Rattle.std.specs.Prelude.{ℕ, zero, suc, ◌-◌, ◌==◌, Bool, false, ◌&&◌, ◌||◌, is_some, cond, List, [], ◌∷◌, Option, None, Some, length, codes, map, unwrap_or}
+use Rattle.std.specs.List.{filter_map, count_by, list_all, list_any}
 use Rattle.std.specs.Str.{bytes_eq}
 use Rattle.posix_table.specs.declared.kind.Param.{Param}
 use Rattle.posix_table.specs.declared.kind.Param.TheVariants as param
@@ -38,16 +38,23 @@ param_of letter = beside (λ known. known == letter) (codes "irwbckx0STABHPQy*")
     (param.Int ∷ param.Read ∷ param.Write ∷ param.Both ∷ param.Copied ∷ param.Kernel ∷ param.Kept ∷ param.Null ∷ param.SetIn ∷ param.SetOut
     ∷ param.ActionIn ∷ param.ActionOut ∷ param.HandlerFn ∷ param.ThreadFn ∷ param.ForkFn ∷ param.Either ∷ param.More ∷ [])
 
+-- the words of the results, in the order of the kinds below
+abbrev pub result_words : List (List ℕ)
+result_words = words (codes "i v ! 1 n g h")
+
+-- the words of the effects, likewise
+abbrev pub effect_words : List (List ℕ)
+effect_words = words (codes "fork split pure wait fill exec empty full any add del mask install endp thread atfork")
+
 -- the result of a word of one letter
 abbrev pub result_of : List ℕ → ResultKind
-result_of word = unwrap_or (beside (λ known. bytes_eq known word) (words (codes "i v ! 1 n g h"))
+result_of word = unwrap_or (beside (λ known. bytes_eq known word) result_words
     (result.Int ∷ result.Nothing ∷ result.Never ∷ result.First ∷ result.Fresh ∷ result.Own ∷ result.OldHandler ∷ [])) result.Nothing
 
 -- the effect of a word; without a word there is none
 abbrev pub effect_of : List ℕ → Effect
-effect_of word = unwrap_or (beside (λ known. bytes_eq known word)
-    (words (codes "fork pure wait fill exec empty full any add del mask install endp thread atfork"))
-    (effect.Fork ∷ effect.Pure ∷ effect.Wait ∷ effect.Fill ∷ effect.Exec ∷ effect.Empty ∷ effect.Full ∷ effect.Any ∷ effect.Add ∷ effect.Del
+effect_of word = unwrap_or (beside (λ known. bytes_eq known word) effect_words
+    (effect.Fork ∷ effect.Split ∷ effect.Pure ∷ effect.Wait ∷ effect.Fill ∷ effect.Exec ∷ effect.Empty ∷ effect.Full ∷ effect.Any ∷ effect.Add ∷ effect.Del
     ∷ effect.Mask ∷ effect.Install ∷ effect.Endp ∷ effect.Thread ∷ effect.Atfork ∷ [])) effect.Plain
 
 -- the arguments that must be given: each letter but those before a question mark, and not the star
@@ -73,3 +80,19 @@ row_of safe signature name = record {
 -- the rows of a line's names
 abbrev pub rows_of : Bool → List ℕ × List ℕ → List Row
 rows_of safe line = map (row_of safe (words line.0)) (words line.1)
+
+-- ---- known words
+
+-- a letter of a parameter, or one of the marks "(),?"
+abbrev pub is_known_byte : ℕ → Bool
+is_known_byte byte = is_some (param_of byte) || list_any (λ mark. mark == byte) (codes "(),?")
+
+abbrev pub is_one_of : List (List ℕ) → List ℕ → Bool
+is_one_of known word = list_any (bytes_eq word) known
+
+-- Each word of a signature is known: the parameters by their letters and marks, the result, and the effect where there is one.
+abbrev pub is_known_signature : List (List ℕ) → Bool
+is_known_signature (parameters ∷ result ∷ []) = list_all is_known_byte parameters && is_one_of result_words result
+is_known_signature (parameters ∷ result ∷ effect ∷ []) =
+    list_all is_known_byte parameters && (is_one_of result_words result && is_one_of effect_words effect)
+is_known_signature _ = false

@@ -1,12 +1,14 @@
--- The functions that the certifier knows.
-use Rattle.std.specs.Prelude.{ℕ, true, false, List, [], ◌∷◌, ◌++◌, codes}
+-- The functions that the certifier knows. Which of them count as safe is this project's own profile: it was made after the list of POSIX.1-2017
+-- XSH 2.4.3, and is no statement of which names stand in that list.
+use Rattle.std.specs.Prelude.{ℕ, true, false, not, ◌&&◌, List, [], ◌∷◌, ◌++◌, codes, map}
 use Rattle.std.specs.List.{flat_map}
+use Rattle.std.specs.Str.{bytes_eq}
 use Rattle.std.specs.Ordering.{nat_cmp, is_lt}
 use Rattle.std.specs.Cmp.Lexicographic.{slice_cmp}
 use Rattle.posix_table.specs.declared.row.Row.{Row}
-use Rattle.posix_table.specs.Notation.{rows_of}
+use Rattle.posix_table.specs.Notation.{row_of, rows_of, words}
 
--- the functions that may be called from a signal-catching function (POSIX.1-2017 XSH 2.4.3), and four macros of <sys/wait.h>
+-- the functions that the profile counts as safe to call from a signal-catching function, and four macros of <sys/wait.h>
 abbrev pub safe_lines : List (List ℕ × List ℕ)
 safe_lines =
     (codes "() i", codes "getegid geteuid getgid getpgrp getpid getppid getuid pause pthread_self setsid") ∷
@@ -66,7 +68,7 @@ safe_lines =
     (codes "(i,H) h install", codes "signal") ∷
     []
 
--- functions that may not
+-- those that it counts as unsafe
 abbrev pub unsafe_lines : List (List ℕ × List ℕ)
 unsafe_lines =
     (codes "(r,*) i", codes "printf") ∷
@@ -114,3 +116,15 @@ sorted (row ∷ rows) = placed row (sorted rows)
 -- the rows of the profile
 unfoldable pub profile_rows : List Row
 profile_rows = sorted (flat_map (rows_of true) safe_lines ++ flat_map (rows_of false) unsafe_lines)
+
+-- fork, counted as unsafe, and any other row as it is
+abbrev pub with_unsafe_fork : Row → Row
+with_unsafe_fork row = record row { safe = row.safe && not (bytes_eq row.name (codes "fork")) }
+
+-- the row of _Fork, which makes a child process as fork does and runs no fork handlers
+abbrev pub split_row : Row
+split_row = row_of true (words (codes "() i split")) (codes "_Fork")
+
+-- The rows of the later profile: those of the profile with fork unsafe, and that of _Fork.
+unfoldable pub later_rows : List Row
+later_rows = placed split_row (map with_unsafe_fork profile_rows)

@@ -64,6 +64,8 @@ pub enum Effect {
     Plain,
     /// It makes a child process.
     Fork,
+    /// It makes a child process and runs no fork handlers.
+    Split,
     /// It leaves `errno` alone.
     Pure,
     /// It waits under the given signal mask, and restores the mask before it returns.

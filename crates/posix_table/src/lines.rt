@@ -1,10 +1,6 @@
-ghost use Rattle.std.specs.Prelude.{◌≡◌, map, length};
-ghost use Rattle.posix_table.specs.Profile.{profile_rows};
-ghost use Rattle.posix_table.specs.Line.{row_of_line};
-
 use crate::Effect::{
-    Add, Any, Atfork, Del, Empty, Endp, Exec, Fill, Fork, Full, Install, Mask, Plain, Pure, Thread,
-    Wait,
+    Add, Any, Atfork, Del, Empty, Endp, Exec, Fill, Fork, Full, Install, Mask, Plain, Pure, Split,
+    Thread, Wait,
 };
 use crate::Param::{
     ActionIn, ActionOut, Both, Copied, Either, ForkFn, HandlerFn, Int, Kept, Kernel, More, Null,
@@ -25,14 +21,27 @@ pub(crate) struct Line(
     pub(crate) Effect,
 );
 
-/// The rows of the profile, sorted by the bytes of the name.
+// The rows of the profiles in parts, each sorted by the bytes of the name.
+
+/// The rows before that of `_Fork`.
 #[rattlefmt::skip]
-static LINES: [Line; 161] = [
+pub(crate) static BEFORE_SPLIT: [Line; 5] = [
     Line("WEXITSTATUS", true, 1, Some(1), &[Int], ResultKind::Int, Pure),
     Line("WIFEXITED", true, 1, Some(1), &[Int], ResultKind::Int, Pure),
     Line("WIFSIGNALED", true, 1, Some(1), &[Int], ResultKind::Int, Pure),
     Line("WTERMSIG", true, 1, Some(1), &[Int], ResultKind::Int, Pure),
     Line("_Exit", true, 1, Some(1), &[Int], Never, Plain),
+];
+
+/// The row of `_Fork`, in the later profile alone.
+#[rattlefmt::skip]
+pub(crate) static SPLIT: [Line; 1] = [
+    Line("_Fork", true, 0, Some(0), &[], ResultKind::Int, Split),
+];
+
+/// The rows between those of `_Fork` and of `fork`.
+#[rattlefmt::skip]
+pub(crate) static BEFORE_FORK: [Line; 33] = [
     Line("_exit", true, 1, Some(1), &[Int], Never, Plain),
     Line("abort", true, 0, Some(0), &[], Never, Plain),
     Line("accept", true, 3, Some(3), &[Int, Write, Both], ResultKind::Int, Plain),
@@ -66,7 +75,23 @@ static LINES: [Line; 161] = [
     Line("fflush", false, 1, Some(1), &[Kernel], ResultKind::Int, Plain),
     Line("fgets", false, 3, Some(3), &[Write, Int, Kernel], First, Plain),
     Line("fopen", false, 2, Some(2), &[Read, Read], Fresh, Plain),
+];
+
+/// The row of `fork`.
+#[rattlefmt::skip]
+pub(crate) static FORK: [Line; 1] = [
     Line("fork", true, 0, Some(0), &[], ResultKind::Int, Fork),
+];
+
+/// The row of `fork` in the later profile.
+#[rattlefmt::skip]
+pub(crate) static UNSAFE_FORK: [Line; 1] = [
+    Line("fork", false, 0, Some(0), &[], ResultKind::Int, Fork),
+];
+
+/// The rows behind that of `fork`.
+#[rattlefmt::skip]
+pub(crate) static BEHIND_FORK: [Line; 122] = [
     Line("fprintf", false, 2, None, &[Kernel, Read, More], ResultKind::Int, Plain),
     Line("fputs", false, 2, Some(2), &[Read, Kernel], ResultKind::Int, Plain),
     Line("free", false, 1, Some(1), &[Kernel], Nothing, Plain),
@@ -190,10 +215,3 @@ static LINES: [Line; 161] = [
     Line("waitpid", true, 3, Some(3), &[Int, Write, Int], ResultKind::Int, Plain),
     Line("write", true, 3, Some(3), &[Int, Read, Int], ResultKind::Int, Plain),
 ];
-
-/// The rows of the profile, sorted by the bytes of the name.
-pub(crate) fn lines() -> &'static [Line]
-    ensures { map row_of_line result.now ≡ profile_rows }
-{
-    &LINES
-}

@@ -53,6 +53,13 @@ impl Params {
         self.letters.get(k).copied()
     }
 
+    /// The letters.
+    pub(crate) fn as_slice(&self) -> &[Param]
+        ensures { result.now ≡ self.now }
+    {
+        self.letters.as_slice()
+    }
+
     /// The parameters of these letters.
     pub(crate) fn from_letters(alloc: Global, letters: &[Param]) -> Result<Self, NoMemory>
         ensures { IfOk result (λ p. p ≡ letters.now) }

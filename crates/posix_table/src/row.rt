@@ -5,7 +5,8 @@ use crate::{Effect, Name, Params, ResultKind};
 pub struct Row {
     /// Its name.
     pub name: Name,
-    /// Whether it may be called from a signal-catching function (POSIX.1-2017 XSH 2.4.3).
+    /// Whether the profile counts it as safe to call from a signal-catching function. The profile is this project's own,
+    /// made after the list of POSIX.1-2017 XSH 2.4.3, and no statement of which names stand in that list.
     pub safe: bool,
     /// The least number of arguments.
     pub fewest: u8,

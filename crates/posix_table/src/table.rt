@@ -1,5 +1,5 @@
 ghost use Rattle.std.specs.Prelude.{◌≡◌, slice_get, option_copied};
-ghost use Rattle.posix_table.specs.Table.{row_named, IsTable};
+ghost use Rattle.posix_table.specs.Table.{row_named, place_named, IsTable};
 
 use crate::Row;
 use std::marker::Model;
@@ -49,6 +49,21 @@ impl Table {
         }
     }
 
+    /// The place of the function of this name in the order of the names, counted from 0; None exactly where no row has the
+    /// name. The time grows with the logarithm of the number of rows, and no memory is taken.
+    pub fn place(&self, name: &str) -> Option<usize>
+        ensures value { result ≡ place_named self.now name.now }
+        ensures table { IsTable self.now }
+    {
+        match self
+            .rows
+            .binary_search_by(|row| row.name.as_str().cmp(name))
+        {
+            Ok(k) => Some(k),
+            Err(_) => None,
+        }
+    }
+
     /// The row at this place in the order of the names, counted from 0; None exactly from the number of rows on. No
     /// memory is taken.
     pub fn at(&self, k: usize) -> Option<&Row>
@@ -56,5 +71,12 @@ impl Table {
         ensures table { IsTable self.now }
     {
         self.rows.get(k)
+    }
+
+    /// The rows.
+    pub(crate) fn as_slice(&self) -> &[Row]
+        ensures { result.now ≡ self.now }
+    {
+        self.rows.as_slice()
     }
 }

@@ -1,13 +1,16 @@
-use Rattle.std.proofs.Common.{◌≡◌, map, ap, sym, ◌∙◌, subst, arith}
-use Rattle.std.proofs.lemmas.List.{take_all}
-use Rattle.posix_table.specs.Profile.{profile_rows}
-use Rattle.posix_table.specs.Line.{row_of_line}
+use Rattle.std.proofs.Common.{◌≡◌, ◌∙◌, sym, subst}
+use Rattle.posix_table.specs.Profile.{profile_rows, later_rows}
 use Rattle.posix_table.specs.Table.{IsTable}
 use Rattle.posix_table.proofs.Sorted.{profile_is_table}
+use Rattle.posix_table.proofs.Parts.{of_four}
 use Rattle.posix_table.proofs.known.profile.Goals as goal
 
 pub of_rows-requires : goal.of_rows-requires
+unfolding profile_rows
 of_rows-requires c =
-    let all : c.loop-line.rows.items ≡ profile_rows =
-    c.loop-line.invariant ∙ ap (map row_of_line) (take_all _ _ (omega (arith, c.loop-line-test.false))) ∙ c.lines-lines.ensures in
+    let all : c.add-4.new.rows.items ≡ profile_rows = of_four _ _ _ _ _ _ _ _ _ c.new-rows.ensures.items c.in_ok-add.ensures c.in_ok-add-2.ensures c.in_ok-add-3.ensures c.in_ok-add-4.ensures in
     subst IsTable (sym all) profile_is_table
+
+pub returns-clause-value : goal.returns-clause-value
+unfolding profile_rows
+returns-clause-value c = c.of_rows.ensures.value ∙ of_four _ _ _ _ _ _ _ _ _ c.new-rows.ensures.items c.in_ok-add.ensures c.in_ok-add-2.ensures c.in_ok-add-3.ensures c.in_ok-add-4.ensures

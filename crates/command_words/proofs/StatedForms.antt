@@ -1,6 +1,7 @@
 -- Words of the stated form ask for the job that they state.
 use Rattle.std.proofs.Common.{◌≡◌, ◌∙◌, refl, sym, ap, ap₂, ℕ, Bool, true, false, List, [], ◌∷◌, ◌++◌, Option, Some, None, is_some, option_map, unwrap_or, codes}
 use Rattle.std.specs.Prelude.{fold}
+use Rattle.std.specs.Option.{option_map_or}
 use Rattle.std.proofs.lemmas.Bool.{eqb-false}
 use Rattle.std.proofs.lemmas.List.{append-nil}
 use Rattle.clap.specs.Walk.{Row, Text, Waiting, Walk, idle, option, positional, arg_by_id, finished, has_row, nothing_held, settled, settled_rows, used_by_id, walk, walked}
@@ -150,10 +151,7 @@ certificate_steps s (Some v) settles plain =
     (certificate_flag s.1 s.2 settles s.0) (certificate_read (settled_rows rules s.2 s.1) v plain)
 
 abbrev json_fault : List Row → Kinds
-json_fault rows = or_else (use_fault_of rows) []
-  where
-    use_fault_of : List Row → Kinds
-    use_fault_of rs = Rattle.std.specs.Option.option_map_or (λ a. use_fault false a [] rs) (arg_by_id rules (codes "json")) []
+json_fault rs = option_map_or (λ a. use_fault false a [] rs) (arg_by_id rules (codes "json")) []
 
 json_passes : (rows : List Row) → has_row (codes "json") rows ≡ false → json_fault rows ≡ []
 unfolding clap_on_literals
@@ -164,16 +162,13 @@ json_flag : (w : Waiting) (rows : List Row) (pending : Pending) → Settles rows
 unfolding clap_on_literals
 json_flag w rows pending settles fresh = go w
   where
-    after : Walk
-    after = at idle 2 (used_by_id (arg_by_id rules (codes "json")) [] (settled_rows rules pending rows)) None
-
     passes : or_else (or_else (settle_fault rules false (held rows pending)) (json_fault (settled_rows rules pending rows))) [] ≡ []
     passes = ap (λ (k : Kinds). or_else (or_else k (json_fault (settled_rows rules pending rows))) []) settles ∙ ap (λ (k : Kinds). or_else k []) (json_passes (settled_rows rules pending rows) fresh)
 
     go : (v : Waiting) → Steps (at v 2 rows pending) (codes "--json" ∷ []) (at idle 2 (used_by_id (arg_by_id rules (codes "json")) [] (settled_rows rules pending rows)) None)
-    go idle = one (at idle 2 rows pending) (at idle 2 (used_by_id (arg_by_id rules (codes "json")) [] (settled_rows rules pending rows)) None) (codes "--json") ? refl
-    go (option id) = one (at (option id) 2 rows pending) (at idle 2 (used_by_id (arg_by_id rules (codes "json")) [] (settled_rows rules pending rows)) None) (codes "--json") ? refl
-    go positional = one (at positional 2 rows pending) (at idle 2 (used_by_id (arg_by_id rules (codes "json")) [] (settled_rows rules pending rows)) None) (codes "--json") ? refl
+    go idle = one (at idle 2 rows pending) (at idle 2 (used_by_id (arg_by_id rules (codes "json")) [] (settled_rows rules pending rows)) None) (codes "--json") passes refl
+    go (option id) = one (at (option id) 2 rows pending) (at idle 2 (used_by_id (arg_by_id rules (codes "json")) [] (settled_rows rules pending rows)) None) (codes "--json") passes refl
+    go positional = one (at positional 2 rows pending) (at idle 2 (used_by_id (arg_by_id rules (codes "json")) [] (settled_rows rules pending rows)) None) (codes "--json") passes refl
 
 json_steps : (s : State) (j : Bool) → Settles s.1 s.2 → has_row (codes "json") (settled_rows rules s.2 s.1) ≡ false → Steps (place s) (json_words j) (place (after_json j s))
 json_steps s false settles fresh = none (place s)

@@ -110,7 +110,7 @@ part_put job ending.NoMemory before after prints part = absurd (no_part before a
 part_put job (ending.TooLarge line) before after prints part = (ending_status (ending.TooLarge line), ending_text (ending.TooLarge line), prints, part)
 part_put job ending.NotYet before after prints part = absurd (no_part before after part)
 
-pub prints : (job : Option Asked) (contents : Contents) (b a : ℕ) (e : Ending) (before after : Option (List ℕ)) → Ends job contents b a e → after ≡ appended before (ending_text e)
+prints : (job : Option Asked) (contents : Contents) (b a : ℕ) (e : Ending) (before after : Option (List ℕ)) → Ends job contents b a e → after ≡ appended before (ending_text e)
     → Prints job (ending_status e) before after
 prints job contents b a e before after ends took = all_put job e before after (job_prints job contents b a e ends) took
 
@@ -401,3 +401,7 @@ absent ending.Usage is = absurd is
 absent (ending.Faulty line) is = absurd is
 absent (ending.TooLarge line) is = absurd is
 absent ending.NotYet is = absurd is
+
+pub prints_as : (job : Option Asked) (contents : Contents) (b a : ℕ) (e : Ending) (result : Status) (before after : Option (List ℕ)) → Ends job contents b a e
+    → result ≡ ending_status e → after ≡ appended before (ending_text e) → Prints job result before after
+prints_as job contents b a e result before after ends is took = subst (λ (s : Status). Prints job s before after) (sym is) (prints job contents b a e before after ends took)

@@ -238,7 +238,15 @@ fn devices_fail(rt: HostRuntime) -> Result<(), Fail> {
         (ABORTS, 0, 100, 100, 0, Status::Yes, FINDINGS),
         (ABORTS, 2, 100, 100, 2, Status::Yes, FINDINGS),
         (ABORTS, 0, 12, 1, 0, Status::Yes, FINDINGS),
-        (ABORTS, 1, 100, 100, 0, Status::ReadFault, "cannot read a.c\n"),
+        (
+            ABORTS,
+            1,
+            100,
+            100,
+            0,
+            Status::ReadFault,
+            "cannot read a.c\n",
+        ),
         (ABORTS, 0, 100, 100, 1, Status::WriteFault, ""),
         (ABORTS, 0, 100, 1, 2, Status::WriteFault, "f"),
         (ABORTS, 0, 100, 0, 0, Status::WriteFault, ""),
@@ -276,7 +284,8 @@ fn devices_fail(rt: HostRuntime) -> Result<(), Fail> {
     Ok(())
 }
 
-const USAGE: &str = "usage: asafe certify FILE [--rules R] [--depth D] [--cert OUT] [--json] | check FILE CERT [--rules R] | show FILE | table | gen N\n";
+const USAGE: &str =
+    "usage: asafe certify FILE [--rules R] [--depth D] [--cert OUT] [--json] | check FILE CERT [--rules R] | show FILE | table | gen N\n";
 
 /// Whether the words, which blanks part, are answered this status over a shelf that holds a text under a.c, and print this.
 fn answers(alloc: Global, line: &str, status: Status, printed: &str) -> Result<bool, Fail> {
@@ -298,7 +307,11 @@ fn words_of_jobs(rt: HostRuntime) -> Result<(), Fail> {
         ("certify a.c", Status::Yes, FINDINGS),
         ("certify a.c --rules strict", Status::Yes, FINDINGS),
         ("--depth=1 certify a.c --rules=later", Status::Yes, FINDINGS),
-        ("certify a.c --json", Status::Yes, "{\"count\":0,\"findings\":[]}\n"),
+        (
+            "certify a.c --json",
+            Status::Yes,
+            "{\"count\":0,\"findings\":[]}\n",
+        ),
         ("certify -- a.c", Status::Yes, FINDINGS),
         ("certify b.c", Status::ReadFault, "cannot read b.c\n"),
         ("certify ", Status::ReadFault, "cannot read \n"),

@@ -1,5 +1,5 @@
 use Rattle.std.proofs.Common.{◌≡◌, ◌∙◌, sym, subst}
-use Rattle.posix_table.specs.Profile.{profile_rows, later_rows}
+use Rattle.posix_table.specs.Profile.{profile_rows}
 use Rattle.posix_table.specs.Table.{IsTable}
 use Rattle.posix_table.proofs.Sorted.{profile_is_table}
 use Rattle.posix_table.proofs.Parts.{of_four}

@@ -1,6 +1,0 @@
-use Rattle.std.proofs.Common.{◌≡◌, map, take}
-use Rattle.posix_table.specs.Line.{row_of_line}
-use Rattle.posix_table.proofs.known.profile.Given as goal
-
-abbrev pub invariant-loop-line : goal.invariant-loop-line
-invariant-loop-line l = l.rows.items ≡ map row_of_line (take l.line-index l.lines)

@@ -1,114 +1,149 @@
--- What the command's ending on a file says of the text that the file holds.
-use Rattle.std.proofs.Common.{◌≡◌, ◌∙◌, ap, refl, sym, subst, ℕ, inl, inr, List, [], ◌∷◌, ◌++◌, Option, Some, None, Ok, Err, Result, string_bytes, arith}
-use Rattle.base_core.specs.Contents.{Contents, text_of}
+-- What the command's ending says of the text, of the status and of what is printed.
+use Rattle.std.proofs.Common.{◌≡◌, ◌∙◌, ap, refl, sym, subst, ℕ, ◌<◌, ◌≤◌, ◌⊎◌, inl, inr, Bool, List, [], ◌∷◌, ◌++◌, length, Option, Some, None, Ok, Err, Result, string_bytes, arith}
+use Rattle.base_core.specs.Contents.{Contents, text_of, Lacks}
+use Rattle.base_core.specs.Count.{Rose}
+use Rattle.base_core.specs.Limits.{most_bytes}
 use Rattle.base_core.specs.Taken.{appended}
+use Rattle.base_core.specs.declared.place.Place.{Place}
 use Rattle.base_core.specs.declared.token.Token.{Token}
-use Rattle.c_lexer.specs.Lexis.{Lexis, lexis}
+use Rattle.c_lexer.specs.Lexis.{Gives, Lexis, lexis}
 use Rattle.c_lexer.specs.declared.fault.LexFault.{LexFault}
+use Rattle.c_lexer.specs.declared.fault.LexFault.TheVariants as lex
 use Rattle.c_tree.specs.Spelling.{spell}
+use Rattle.command_words.specs.Jobs.{Asked, certify, check, show, table, generate}
+use Rattle.asafe.specs.declared.status.Status.{Status}
 use Rattle.asafe.specs.declared.status.Status.TheVariants.{Yes, Refused, Usage, Text, ReadFault, WriteFault, NoMemory, TooLarge, NotYet}
 use Rattle.asafe.specs.declared.ending.Ending.{Ending}
-use Rattle.asafe.specs.declared.ending.Ending.TheVariants.{Plain, Faulty}
 use Rattle.asafe.specs.declared.ending.Ending.TheVariants as ending
+use Rattle.asafe.specs.declared.token_fault.TokenFault.{TokenFault}
+use Rattle.asafe.specs.declared.token_fault.TokenFault.TheVariants as token
+use Rattle.asafe.specs.Answers.{Ends, FileEnds, TableEnds, LaterEnds, UsageEnds, IsUnread, Says, TellsFault, TextEnds}
 use Rattle.asafe.specs.Ending.{ending_status, ending_text}
-use Rattle.asafe.specs.Ends.{IsDecidedOrFault}
-use Rattle.asafe.specs.Printing.{PutsPart}
-use Rattle.asafe.specs.Text.{HasTokens, IsInSubset, IsTooLarge}
-use Rattle.asafe.specs.Words.{certified_file, HasText}
-use Rattle.asafe.specs.Answers.{TellsFault, FileAnswer, NamesFile, PutsTooLarge, PutsPartOf}
+use Rattle.asafe.specs.Ends.{IsUsageOrFault, IsYesOrFault, IsNotYetOrNoMemory, IsReadFaultOrFault, IsTooLargeOrFault, IsDecidedOrFault}
+use Rattle.asafe.specs.FaultLine.{IsFaultLine, IsKind, fault_line, kind_of, place_of, token_fault_kind, token_fault_line}
+use Rattle.asafe.specs.Lines.{report, table_text, usage_line}
+use Rattle.asafe.specs.Printing.{CertifyPrints, IsPrintedOf, JobPrints, LaterPrints, Prints, PutsLine, PutsPart, TablePrints, UsagePrints}
+use Rattle.asafe.specs.Text.{HasFault, HasTokens, IsInSubset, IsShort, IsSmall, IsTooLarge, PassesLimits}
+use Rattle.asafe.specs.Words.{Certifies, HasText, IsLater, LacksFile, certified}
 use Rattle.asafe.proofs.Texts.{tokens_only, all_fit, none_passes}
 
--- a text has tokens or a fault
-no_fault : (text : List ℕ) (ts : List Token) (fault : LexFault) → HasTokens text ts → lexis text ≡ Err fault → ⊥
-no_fault text ts fault has faulty = let clash : ◌≡◌ {A = Result Lexis LexFault} (Ok has.0) (Err fault) = sym has.1 ∙ faulty in cc
+-- ---- the lines of faults
+
+known : (fault : LexFault) (place : Place) → place_of fault ≡ Some place → IsKind (kind_of fault)
+known (lex.BadByte p) place at = inl refl
+known (lex.OpenComment p) place at = inr (inl refl)
+known (lex.OpenLiteral p) place at = inr (inr (inl refl))
+known (lex.NumberTooLarge p) place at = inr (inr (inr (inl refl)))
+known (lex.Directive p) place at = inr (inr (inr (inr (inl refl))))
+known lex.NoMemory place at = let clash : ◌≡◌ {A = Option Place} None (Some place) = at in absurd cc
+
+known_token : (fault : TokenFault) → IsKind (token_fault_kind fault)
+known_token token.Syntax = inr (inr (inr (inr (inr (inl refl)))))
+known_token token.Nested = inr (inr (inr (inr (inr (inr refl)))))
+
+first_fault : (fault : LexFault) (place : Place) (read : Result Lexis LexFault) → place_of fault ≡ Some place → Gives (Err fault) read → read ≡ Err fault
+first_fault (lex.BadByte p) place read at gives = gives
+first_fault (lex.OpenComment p) place read at gives = gives
+first_fault (lex.OpenLiteral p) place read at gives = gives
+first_fault (lex.NumberTooLarge p) place read at gives = gives
+first_fault (lex.Directive p) place read at gives = gives
+first_fault lex.NoMemory place read at gives = let clash : ◌≡◌ {A = Option Place} None (Some place) = at in absurd cc
 
 -- ---- texts in the subset
 
-no_tells : (file text line : List ℕ) → IsInSubset text → TellsFault file text line → ⊥
-no_tells file text line is (inl tells) = no_fault text (spell is.items) tells.fault is.spells.tokens tells.first
-no_tells file text line is (inr tells) =
-    let same = tokens_only text tells.read (spell is.items) tells.has.lexed is.spells.tokens in
-    all_fit tells.misfit tells.token tells.read.tokens is.items is.spells.shape is.limits same tells.has.cause
+no_fault : (text : List ℕ) (ts : List Token) (fault : LexFault) → HasTokens text ts → lexis text ≡ Err fault → ⊥
+no_fault text ts fault has faulty = let clash : ◌≡◌ {A = Result Lexis LexFault} (Ok has.0) (Err fault) = sym has.1 ∙ faulty in cc
 
-no_too_large : (text : List ℕ) → IsInSubset text → IsTooLarge text → ⊥
-no_too_large text is (inl long) = let short = is.short in omega arith
-no_too_large text is (inr passes) =
+not_faulty : (text : List ℕ) → IsInSubset text → HasFault text → ⊥
+not_faulty text is (inl first) = no_fault text (spell is.items) first.0 is.spells.tokens first.1
+not_faulty text is (inr later) =
+    let same = tokens_only text later.1 (spell is.items) later.3.lexed is.spells.tokens in
+    all_fit later.0 later.2 later.1.tokens is.items is.spells.shape is.limits same later.3.cause
+
+not_too_large : (text : List ℕ) → IsInSubset text → IsTooLarge text → ⊥
+not_too_large text is (inl long) = let short = is.short in omega arith
+not_too_large text is (inr passes) =
     let same = tokens_only text passes.read (spell is.items) passes.lexed is.spells.tokens in
     none_passes passes.token passes.read.tokens is.items is.spells.shape is.limits same passes.cause
 
-pub is_decided : (file text : List ℕ) (e : Ending) → FileAnswer file text e → IsInSubset text → IsDecidedOrFault text (ending_status e)
-is_decided file text (Faulty line) answer is = absurd (no_tells file text (string_bytes line) is answer.1)
-is_decided file text (ending.TooLarge line) answer is = absurd (no_too_large text is answer)
-is_decided file text (Plain Yes) answer is = let keeps = answer.1 in (keeps.tree, keeps.spells)
-is_decided file text (Plain Refused) answer is = let refused = answer.1 in (refused.tree, refused.spells)
-is_decided file text (Plain NotYet) answer is = let not_flat = answer.1 in not_flat.none
-is_decided file text (Plain NoMemory) answer is = tt
-is_decided file text (Plain ReadFault) answer is = tt
-is_decided file text (Plain Usage) answer is = absurd answer
-is_decided file text (Plain Text) answer is = absurd answer
-is_decided file text (Plain WriteFault) answer is = absurd answer
-is_decided file text (Plain TooLarge) answer is = absurd answer
+pub decided : (text : List ℕ) (s : Status) → Says text s → IsInSubset text → IsDecidedOrFault s
+decided text Yes says is = tt
+decided text Refused says is = tt
+decided text NotYet says is = tt
+decided text ReadFault says is = tt
+decided text WriteFault says is = tt
+decided text NoMemory says is = tt
+decided text Text says is = absurd (not_faulty text is says.1)
+decided text TooLarge says is = absurd (not_too_large text is says)
+decided text Usage says is = absurd says
 
--- ---- what is printed
+-- ---- texts that are too long, and small ones
 
-no_part : (before after : Option (List ℕ)) (bytes : List ℕ) → bytes ≡ [] → PutsPart before after bytes → ⊥
-no_part before after bytes none part = no_rest part.front part.rest (sym part.split ∙ none) part.proper
-  where
-    no_rest : (front rest : List ℕ) → front ++ rest ≡ [] → (rest ≡ [] → ⊥) → ⊥
-    no_rest [] rest same proper = proper same
-    no_rest (x ∷ front) rest same proper = cc
+not_short : (text : List ℕ) → IsShort text → most_bytes < length text → ⊥
+not_short text short long = omega (arith, short, long)
 
-pub puts_part : (file text : List ℕ) (e : Ending) (before after : Option (List ℕ)) → FileAnswer file text e → NamesFile file e → PutsPart before after (ending_text e)
-    → PutsPartOf file text before after
-puts_part file text (Faulty line) before after answer names part = (string_bytes line, inr (inl answer.1), part)
-puts_part file text (ending.TooLarge line) before after answer names part = (string_bytes line, inr (inr (answer, names)), part)
-puts_part file text (Plain Yes) before after answer names part = (ending_text (Plain Yes), inl (answer.1, refl), part)
-puts_part file text (Plain Refused) before after answer names part = absurd (no_part before after [] refl part)
-puts_part file text (Plain NotYet) before after answer names part = absurd (no_part before after [] refl part)
-puts_part file text (Plain NoMemory) before after answer names part = absurd (no_part before after [] refl part)
-puts_part file text (Plain ReadFault) before after answer names part = absurd (no_part before after [] refl part)
-puts_part file text (Plain Usage) before after answer names part = absurd answer
-puts_part file text (Plain Text) before after answer names part = absurd answer
-puts_part file text (Plain WriteFault) before after answer names part = absurd answer
-puts_part file text (Plain TooLarge) before after answer names part = absurd answer
+pub too_long : (text : List ℕ) (s : Status) → Says text s → most_bytes < length text → IsTooLargeOrFault s
+too_long text Yes says long = absurd (not_short text says.0 long)
+too_long text Refused says long = absurd (not_short text says.0 long)
+too_long text NotYet says long = absurd (not_short text says.0 long)
+too_long text Text says long = absurd (not_short text says.0 long)
+too_long text ReadFault says long = tt
+too_long text WriteFault says long = tt
+too_long text NoMemory says long = tt
+too_long text TooLarge says long = tt
+too_long text Usage says long = absurd says
 
--- ---- the file that the words ask to certify
+same_ok : (a b : Lexis) → ◌≡◌ {A = Result Lexis LexFault} (Ok a) (Ok b) → a ≡ b
+same_ok a b same = cc
 
-same_some : (a b : List ℕ) → ◌≡◌ {A = Option (List ℕ)} (Some a) (Some b) → a ≡ b
-same_some a b same = cc
+few_tokens : (ts us : List Token) (k : ℕ) → us ≡ ts → k ≤ length us → 900 ≤ k → length ts < 900 → ⊥
+few_tokens ts us k same within late few = let size = ap length same in omega (arith, size, within, late, few)
 
--- what the shelf tells of the file, told of the text that the words ask for
-pub answered : (words : List (List ℕ)) (contents : Contents) (file : List ℕ) (e : Ending) → certified_file words ≡ Some file
-    → ((text : List ℕ) → text_of contents file ≡ Some text → FileAnswer file text e) → (text : List ℕ) (asked : HasText words contents text) → FileAnswer asked.file text e
-answered words contents file e is answers text asked =
-    let same = same_some file asked.file (sym is ∙ asked.asked) in
-    subst (λ f. FileAnswer f text e) same (answers text (ap (text_of contents) same ∙ asked.held))
+pub not_small : (text : List ℕ) → IsTooLarge text → IsSmall text → ⊥
+not_small text (inl long) small = not_short text small.short long
+not_small text (inr passes) small =
+    few_tokens small.read.tokens passes.read.tokens passes.token (ap (λ (l : Lexis). l.tokens) (same_ok passes.read small.read (sym passes.lexed ∙ small.lexed)))
+    passes.cause.within passes.cause.late small.few
 
-pub no_file : (words : List (List ℕ)) (contents : Contents) (text : List ℕ) → certified_file words ≡ None → HasText words contents text → ⊥
-no_file words contents text none asked = let clash : ◌≡◌ {A = Option (List ℕ)} None (Some asked.file) = sym none ∙ asked.asked in cc
+-- ---- a file to certify
 
-pub decides_asked : (words : List (List ℕ)) (contents : Contents) (file : List ℕ) (e : Ending) → certified_file words ≡ Some file
-    → ((text : List ℕ) → text_of contents file ≡ Some text → FileAnswer file text e) → (text : List ℕ) → HasText words contents text → IsInSubset text
-    → IsDecidedOrFault text (ending_status e)
-decides_asked words contents file e is answers text asked subset = is_decided asked.file text e (answered words contents file e is answers text asked) subset
+has_fault : (file text line : List ℕ) → TellsFault file text line → HasFault text
+has_fault file text line (inl tells) = inl (tells.fault, tells.first)
+has_fault file text line (inr tells) = inr (tells.fault, tells.read, tells.token, tells.has)
 
-pub part_asked : (words : List (List ℕ)) (contents : Contents) (file : List ℕ) (e : Ending) (before after : Option (List ℕ)) (bytes : List ℕ) → certified_file words ≡ Some file
-    → ((text : List ℕ) → text_of contents file ≡ Some text → FileAnswer file text e) → NamesFile file e → bytes ≡ ending_text e → PutsPart before after bytes
-    → (text : List ℕ) (asked : HasText words contents text) → PutsPartOf asked.file text before after
-part_asked words contents file e before after bytes is answers names same part text asked =
-    puts_part asked.file text e before after (answered words contents file e is answers text asked)
-    (subst (λ f. NamesFile f e) (same_some file asked.file (sym is ∙ asked.asked)) names) (subst (PutsPart before after) same part)
+says_file : (file text : List ℕ) (json : Bool) (contents : Contents) (b a : ℕ) (e : Ending) → FileEnds file json contents b a e → text_of contents file ≡ Some text → Says text (ending_status e)
+says_file file text json contents b a (ending.Accepted as_json) ends held = ends.1 text held
+says_file file text json contents b a ending.Refused ends held = ends text held
+says_file file text json contents b a (ending.Listed list) ends held = absurd ends
+says_file file text json contents b a ending.Usage ends held = absurd ends
+says_file file text json contents b a (ending.Faulty line) ends held = let has = ends.1 text held in (has.0, has_fault file text (string_bytes line) has.1)
+says_file file text json contents b a (ending.Unread line) ends held = tt
+says_file file text json contents b a ending.NoMemory ends held = tt
+says_file file text json contents b a (ending.TooLarge line) ends held = ends.1 text held
+says_file file text json contents b a ending.NotYet ends held = ends text held
 
-pub puts_too_large : (words : List (List ℕ)) (file : List ℕ) (e : Ending) (before after : Option (List ℕ)) → certified_file words ≡ Some file → NamesFile file e
-    → ending_status e ≡ TooLarge → after ≡ appended before (ending_text e) → PutsTooLarge words before after
-puts_too_large words file (ending.TooLarge line) before after is names ends took = record { file = file; asked = is; taken = took ∙ ap (appended before) names }
-puts_too_large words file (Faulty line) before after is names ends took = absurd cc
-puts_too_large words file (Plain TooLarge) before after is names ends took = absurd names
-puts_too_large words file (Plain Yes) before after is names ends took = absurd cc
-puts_too_large words file (Plain Refused) before after is names ends took = absurd cc
-puts_too_large words file (Plain NotYet) before after is names ends took = absurd cc
-puts_too_large words file (Plain NoMemory) before after is names ends took = absurd cc
-puts_too_large words file (Plain ReadFault) before after is names ends took = absurd cc
-puts_too_large words file (Plain Usage) before after is names ends took = absurd cc
-puts_too_large words file (Plain Text) before after is names ends took = absurd cc
-puts_too_large words file (Plain WriteFault) before after is names ends took = absurd cc
+same_some : (p q : List ℕ × Bool) → ◌≡◌ {A = Option (List ℕ × Bool)} (Some p) (Some q) → p ≡ q
+same_some p q same = cc
+
+not_some : {A : Type 0} (p : List ℕ × Bool) → ◌≡◌ {A = Option (List ℕ × Bool)} None (Some p) → ⊥
+not_some p same = cc
+
+pub ends_file : (job : Option Asked) (file : List ℕ) (json : Bool) (contents : Contents) (b a : ℕ) (e : Ending) → certified job ≡ Some (file, json) → Ends job contents b a e
+    → FileEnds file json contents b a e
+ends_file None file json contents b a e asks ends = absurd (not_some {A = ⊥} (file, json) asks)
+ends_file (Some (certify f rules depth None j)) file json contents b a e asks ends =
+    subst (λ (p : List ℕ × Bool). FileEnds p.0 p.1 contents b a e) (same_some (f, j) (file, json) asks) ends
+ends_file (Some (certify f rules depth (Some out) j)) file json contents b a e asks ends = absurd (not_some {A = ⊥} (file, json) asks)
+ends_file (Some (check f certificate rules)) file json contents b a e asks ends = absurd (not_some {A = ⊥} (file, json) asks)
+ends_file (Some (show f)) file json contents b a e asks ends = absurd (not_some {A = ⊥} (file, json) asks)
+ends_file (Some table) file json contents b a e asks ends = absurd (not_some {A = ⊥} (file, json) asks)
+ends_file (Some (generate n)) file json contents b a e asks ends = absurd (not_some {A = ⊥} (file, json) asks)
+
+pub says : (job : Option Asked) (contents : Contents) (b a : ℕ) (e : Ending) (text : List ℕ) → Ends job contents b a e → HasText job contents text → Says text (ending_status e)
+says job contents b a e text ends has =
+    says_file has.file text has.certifies.json contents b a e (ends_file job has.file has.certifies.json contents b a e has.certifies.asked ends) has.held
+
+-- the same of the status that is answered
+pub says_as : (job : Option Asked) (contents : Contents) (b a : ℕ) (e : Ending) (result s : Status) (text : List ℕ) → Ends job contents b a e → result ≡ ending_status e → result ≡ s
+    → HasText job contents text → Says text s
+says_as job contents b a e result s text ends is same has = subst (Says text) (sym is ∙ same) (says job contents b a e text ends has)

@@ -1,3 +1,4 @@
-pub mod Putting
 pub mod Texts
 pub mod Endings
+pub mod Printed
+pub mod Putting

@@ -1,11 +1,36 @@
 -- Which statuses may come where.
 use Rattle.std.specs.Prelude.{ℕ, List}
-use Rattle.flat_programs.specs.FlatTree.{FlatTree}
 use Rattle.asafe.specs.declared.status.Status.{Status}
-use Rattle.asafe.specs.declared.status.Status.TheVariants.{Yes, Refused, ReadFault, WriteFault, NoMemory, TooLarge, NotYet}
-use Rattle.asafe.specs.Text.{Spells}
+use Rattle.asafe.specs.declared.status.Status.TheVariants.{Yes, Refused, Usage, ReadFault, WriteFault, NoMemory, TooLarge, NotYet}
 
--- of a file whose text is too long: that it is too large, or a fault
+-- of words that ask for no job
+abbrev pub IsUsageOrFault : Status → Type 0
+IsUsageOrFault Usage = Unit {0}
+IsUsageOrFault WriteFault = Unit {0}
+IsUsageOrFault NoMemory = Unit {0}
+IsUsageOrFault _ = ⊥
+
+-- of the job that lists the function table
+abbrev pub IsYesOrFault : Status → Type 0
+IsYesOrFault Yes = Unit {0}
+IsYesOrFault WriteFault = Unit {0}
+IsYesOrFault NoMemory = Unit {0}
+IsYesOrFault _ = ⊥
+
+-- of a job that isn't built yet, which prints nothing
+abbrev pub IsNotYetOrNoMemory : Status → Type 0
+IsNotYetOrNoMemory NotYet = Unit {0}
+IsNotYetOrNoMemory NoMemory = Unit {0}
+IsNotYetOrNoMemory _ = ⊥
+
+-- of a file that told contents lack
+abbrev pub IsReadFaultOrFault : Status → Type 0
+IsReadFaultOrFault ReadFault = Unit {0}
+IsReadFaultOrFault WriteFault = Unit {0}
+IsReadFaultOrFault NoMemory = Unit {0}
+IsReadFaultOrFault _ = ⊥
+
+-- of a file whose text is too long
 abbrev pub IsTooLargeOrFault : Status → Type 0
 IsTooLargeOrFault TooLarge = Unit {0}
 IsTooLargeOrFault ReadFault = Unit {0}
@@ -13,12 +38,12 @@ IsTooLargeOrFault WriteFault = Unit {0}
 IsTooLargeOrFault NoMemory = Unit {0}
 IsTooLargeOrFault _ = ⊥
 
--- of a file whose text is in the subset: what is decided of a flat program, that the text spells none, or a fault
-abbrev pub IsDecidedOrFault : List ℕ → Status → Type 0
-IsDecidedOrFault text Yes = (t : FlatTree) × Spells text t
-IsDecidedOrFault text Refused = (t : FlatTree) × Spells text t
-IsDecidedOrFault text NotYet = (t : FlatTree) → ¬ Spells text t
-IsDecidedOrFault text ReadFault = Unit {0}
-IsDecidedOrFault text WriteFault = Unit {0}
-IsDecidedOrFault text NoMemory = Unit {0}
-IsDecidedOrFault text _ = ⊥
+-- of a file whose text is in the subset
+abbrev pub IsDecidedOrFault : Status → Type 0
+IsDecidedOrFault Yes = Unit {0}
+IsDecidedOrFault Refused = Unit {0}
+IsDecidedOrFault NotYet = Unit {0}
+IsDecidedOrFault ReadFault = Unit {0}
+IsDecidedOrFault WriteFault = Unit {0}
+IsDecidedOrFault NoMemory = Unit {0}
+IsDecidedOrFault _ = ⊥

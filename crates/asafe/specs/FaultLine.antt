@@ -1,20 +1,21 @@
--- The lines that are printed for a text that is not in the subset or too large.
-use Rattle.std.specs.Prelude.{ℕ, List, [], ◌∷◌, ◌++◌, slice_get, unwrap_or, codes, decimal}
+-- The lines that are printed for a text that is not in the subset.
+use Rattle.std.specs.Prelude.{◌≡◌, ◌⊎◌, ℕ, Option, Some, None, List, [], ◌∷◌, ◌++◌, slice_get, unwrap_or, codes, decimal}
 use Rattle.base_core.specs.declared.place.Place.{Place}
 use Rattle.c_lexer.specs.FaultFile.{fault_file, file_named}
 use Rattle.c_lexer.specs.Lexis.{Lexis}
 use Rattle.c_lexer.specs.declared.fault.LexFault.{LexFault}
 use Rattle.c_lexer.specs.declared.fault.LexFault.TheVariants.{BadByte, OpenComment, OpenLiteral, NumberTooLarge, Directive, NoMemory}
-use Rattle.asafe.specs.declared.misfit.Misfit.{Misfit}
-use Rattle.asafe.specs.declared.misfit.Misfit.TheVariants.{Syntax, Nested}
+use Rattle.asafe.specs.declared.token_fault.TokenFault.{TokenFault}
+use Rattle.asafe.specs.declared.token_fault.TokenFault.TheVariants.{Syntax, Nested}
 
-abbrev pub place_of : LexFault → Place
-place_of (BadByte place) = place
-place_of (OpenComment place) = place
-place_of (OpenLiteral place) = place
-place_of (NumberTooLarge place) = place
-place_of (Directive place) = place
-place_of NoMemory = record { file = 0; line = 0; column = 0 }
+-- the place of a fault; want of memory has none
+abbrev pub place_of : LexFault → Option Place
+place_of (BadByte place) = Some place
+place_of (OpenComment place) = Some place
+place_of (OpenLiteral place) = Some place
+place_of (NumberTooLarge place) = Some place
+place_of (Directive place) = Some place
+place_of NoMemory = None
 
 abbrev pub kind_of : LexFault → List ℕ
 kind_of (BadByte place) = codes "BadByte"
@@ -24,9 +25,9 @@ kind_of (NumberTooLarge place) = codes "NumberTooLarge"
 kind_of (Directive place) = codes "Directive"
 kind_of NoMemory = codes "NoMemory"
 
-abbrev pub misfit_kind : Misfit → List ℕ
-misfit_kind Syntax = codes "Syntax"
-misfit_kind Nested = codes "Nested"
+abbrev pub token_fault_kind : TokenFault → List ℕ
+token_fault_kind Syntax = codes "Syntax"
+token_fault_kind Nested = codes "Nested"
 
 -- FILE:LINE:COLUMN: not in the subset: KIND
 unfoldable pub line_at : List ℕ → Place → List ℕ → List ℕ
@@ -34,18 +35,28 @@ line_at file place kind =
     file ++ (codes ":" ++ (decimal place.line ++ (codes ":" ++ (decimal place.column ++ (codes ": not in the subset: " ++ (kind ++ codes "\n"))))))
 
 -- the file is that of the line marker before the fault, or the one that the words name
-abbrev pub fault_line : List ℕ → List ℕ → LexFault → List ℕ
-fault_line file text fault = line_at (unwrap_or (fault_file text) file) (place_of fault) (kind_of fault)
+abbrev pub fault_line : List ℕ → List ℕ → Place → List ℕ → List ℕ
+fault_line file text place kind = line_at (unwrap_or (fault_file text) file) place kind
 
 -- the place of token k, and for their number that of the end of the text
 abbrev pub place_at : Lexis → ℕ → Place
 place_at read k = unwrap_or (slice_get (read.places ++ read.end ∷ []) k) read.end
 
 -- the file is that of token k by its line marker, or the one that the words name
-abbrev pub misfit_line : List ℕ → Misfit → Lexis → ℕ → List ℕ
-misfit_line file misfit read k =
-    line_at (unwrap_or (file_named read.files (place_at read k).file) file) (place_at read k) (misfit_kind misfit)
+abbrev pub token_fault_line : List ℕ → TokenFault → Lexis → ℕ → List ℕ
+token_fault_line file fault read k =
+    line_at (unwrap_or (file_named read.files (place_at read k).file) file) (place_at read k) (token_fault_kind fault)
 
--- NAME: too large
-unfoldable pub too_large_line : List ℕ → List ℕ
-too_large_line name = name ++ codes ": too large\n"
+-- ---- the form of these lines
+
+abbrev pub IsKind : List ℕ → Type 0
+IsKind kind =
+    (kind ≡ codes "BadByte") ⊎ ((kind ≡ codes "OpenComment") ⊎ ((kind ≡ codes "OpenLiteral") ⊎ ((kind ≡ codes "NumberTooLarge")
+    ⊎ ((kind ≡ codes "Directive") ⊎ ((kind ≡ codes "Syntax") ⊎ (kind ≡ codes "Nested"))))))
+
+pub record IsFaultLine (bytes : List ℕ) : Type 0 where
+  pub file : List ℕ
+  pub place : Place
+  pub kind : List ℕ
+  pub known : IsKind kind
+  pub is : bytes ≡ line_at file place kind

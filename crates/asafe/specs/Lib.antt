@@ -3,7 +3,8 @@ pub mod Words
 pub mod Text
 pub mod Deciding
 pub mod FaultLine
+pub mod Lines
 pub mod Ending
-pub mod Printing
 pub mod Answers
+pub mod Printing
 pub mod Ends

@@ -1,7 +1,7 @@
 ghost use Rattle.std.specs.Prelude.{IfOk};
 ghost use Rattle.asafe.specs.Deciding.{IsProgram, Decides};
 
-use crate::misfit::Misfit;
+use crate::token_fault::TokenFault;
 use base_core::NoMemory;
 use c_lexer::Tokens;
 use c_parser::{ParseFault, parse};
@@ -18,14 +18,14 @@ pub(crate) enum Decision {
     /// They spell a program within the limits, and no flat program.
     NotFlat,
     /// They spell no program within the limits, since this token doesn't fit; their number where it is the end.
-    Misplaced(Misfit, usize),
+    Misplaced(TokenFault, usize),
     /// No program within the limits of nodes and depth begins with them.
     TooLarge,
 }
 
 /// Decides tokens that spell a program within the limits.
 fn decide_flat(alloc: Global, tokens: &Tokens) -> Result<Decision, NoMemory>
-    requires { IsProgram tokens.now }
+    requires { IsProgram tokens.now.tokens }
     ensures { IfOk result (λ decision. Decides tokens.now decision) }
 {
     match read_flat(alloc, tokens) {
@@ -47,8 +47,8 @@ pub(crate) fn decide(alloc: Global, tokens: &Tokens) -> Result<Decision, NoMemor
 {
     match parse(alloc, tokens) {
         Ok(_) => decide_flat(alloc, tokens),
-        Err(ParseFault::Syntax(token)) => Ok(Decision::Misplaced(Misfit::Syntax, token)),
-        Err(ParseFault::Nested(token)) => Ok(Decision::Misplaced(Misfit::Nested, token)),
+        Err(ParseFault::Syntax(token)) => Ok(Decision::Misplaced(TokenFault::Syntax, token)),
+        Err(ParseFault::Nested(token)) => Ok(Decision::Misplaced(TokenFault::Nested, token)),
         Err(ParseFault::Large(_)) => Ok(Decision::TooLarge),
         Err(ParseFault::NoMemory) => Err(NoMemory),
     }

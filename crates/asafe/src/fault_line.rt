@@ -1,29 +1,28 @@
 ghost use Rattle.std.specs.Prelude.{◌≡◌, ◌≤◌, length, string_bytes, IfOk};
-ghost use Rattle.asafe.specs.FaultLine.{place_of, kind_of, misfit_kind, line_at, fault_line, misfit_line, too_large_line};
+ghost use Rattle.base_core.specs.Limits.{most_bytes};
+ghost use Rattle.asafe.specs.FaultLine.{place_of, kind_of, token_fault_kind, line_at, fault_line, token_fault_line};
 
-use crate::misfit::Misfit;
+use crate::token_fault::TokenFault;
 use base_core::{NoMemory, Place};
 use c_lexer::{LexFault, Tokens, fault_file};
 use std::alloc::Global;
 
-fn place_of(fault: LexFault) -> Place
+/// Where the fault lies; None exactly at want of memory.
+pub(crate) fn place_of(fault: LexFault) -> Option<Place>
     ensures { result ≡ place_of fault }
 {
     match fault {
-        LexFault::BadByte(place) => place,
-        LexFault::OpenComment(place) => place,
-        LexFault::OpenLiteral(place) => place,
-        LexFault::NumberTooLarge(place) => place,
-        LexFault::Directive(place) => place,
-        LexFault::NoMemory => Place {
-            file: 0,
-            line: 0,
-            column: 0,
-        },
+        LexFault::BadByte(place)
+        | LexFault::OpenComment(place)
+        | LexFault::OpenLiteral(place)
+        | LexFault::NumberTooLarge(place)
+        | LexFault::Directive(place) => Some(place),
+        LexFault::NoMemory => None,
     }
 }
 
-fn kind_of(fault: LexFault) -> &'static str
+/// The word for its kind.
+pub(crate) fn kind_of(fault: LexFault) -> &'static str
     ensures { result.now ≡ kind_of fault }
 {
     match fault {
@@ -36,12 +35,12 @@ fn kind_of(fault: LexFault) -> &'static str
     }
 }
 
-fn misfit_kind(misfit: Misfit) -> &'static str
-    ensures { result.now ≡ misfit_kind misfit }
+fn token_fault_kind(fault: TokenFault) -> &'static str
+    ensures { result.now ≡ token_fault_kind fault }
 {
-    match misfit {
-        Misfit::Syntax => "Syntax",
-        Misfit::Nested => "Nested",
+    match fault {
+        TokenFault::Syntax => "Syntax",
+        TokenFault::Nested => "Nested",
     }
 }
 
@@ -56,17 +55,17 @@ fn line_at(alloc: Global, file: &str, place: Place, kind: &str) -> Result<String
     }
 }
 
-/// The line of the fault of a text, which was read from this file.
+/// The line of a fault of this kind at this place of a text, which was read from this file.
 pub(crate) fn fault_line(
     alloc: Global,
     file: &str,
     text: &[u8],
-    fault: LexFault,
+    place: Place,
+    kind: &str,
 ) -> Result<String, NoMemory>
-    requires { length text.now ≤ 1048576 }
-    ensures { IfOk result (λ line. string_bytes line ≡ fault_line file.now text.now fault) }
+    requires { length text.now ≤ most_bytes }
+    ensures { IfOk result (λ line. string_bytes line ≡ fault_line file.now text.now place kind.now) }
 {
-    let (place, kind) = (place_of(fault), kind_of(fault));
     match fault_file(alloc, text)? {
         Some(name) => line_at(alloc, name.as_str(), place, kind),
         None => line_at(alloc, file, place, kind),
@@ -74,29 +73,19 @@ pub(crate) fn fault_line(
 }
 
 /// The line of the k-th token of a text, which was read from this file, where that token doesn't fit.
-pub(crate) fn misfit_line(
+pub(crate) fn token_fault_line(
     alloc: Global,
     file: &str,
-    misfit: Misfit,
+    fault: TokenFault,
     tokens: &Tokens,
     k: usize,
 ) -> Result<String, NoMemory>
     requires { k ≤ length tokens.now.tokens }
-    ensures { IfOk result (λ line. string_bytes line ≡ misfit_line file.now misfit tokens.now k) }
+    ensures { IfOk result (λ line. string_bytes line ≡ token_fault_line file.now fault tokens.now k) }
 {
-    let (place, kind) = (tokens.place(k), misfit_kind(misfit));
+    let (place, kind) = (tokens.place(k), token_fault_kind(fault));
     match tokens.file(place.file) {
         Some(name) => line_at(alloc, name, place, kind),
         None => line_at(alloc, file, place, kind),
-    }
-}
-
-/// The line for a text of this name that is too large.
-pub(crate) fn too_large_line(alloc: Global, name: &str) -> Result<String, NoMemory>
-    ensures { IfOk result (λ line. string_bytes line ≡ too_large_line name.now) }
-{
-    match format!(in alloc; "{name}: too large\n") {
-        Ok(line) => Ok(line),
-        Err(_) => Err(NoMemory),
     }
 }

@@ -9,10 +9,10 @@ mod command;
 mod decision;
 mod ending;
 mod fault_line;
-mod misfit;
+mod lines;
 mod put;
 mod status;
-mod words;
+mod token_fault;
 
 use base_core::{FileShelf, StdSink};
 pub use command::run;

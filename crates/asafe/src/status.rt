@@ -1,14 +1,14 @@
 ghost use Rattle.std.specs.Prelude.{◌≡◌};
-ghost use Rattle.asafe.specs.Status.{code_of, text_of};
+ghost use Rattle.asafe.specs.Status.{code_of};
 
 /// How the command ends.
 #[derive(Clone, Copy, Debug, PartialEq, Eq, Hash)]
 pub enum Status {
-    /// No run of the program breaks a rule.
+    /// No run of the program breaks a rule; or what was asked for is printed.
     Yes,
     /// The condition on the handlers doesn't hold.
     Refused,
-    /// The words are not those of a command.
+    /// The words ask for no job of the command.
     Usage,
     /// The text is not in the subset: it has a fault of the lexis, a token with which no program goes on, or too many open
     /// brackets.
@@ -21,7 +21,8 @@ pub enum Status {
     NoMemory,
     /// The text is too long, or its program has too many nodes or too great a depth.
     TooLarge,
-    /// The text spells a program of the subset that is no flat program. Such programs aren't decided yet.
+    /// The job isn't built yet, or the text spells a program of the subset that is no flat program. Such programs aren't
+    /// decided yet.
     NotYet,
 }
 
@@ -40,16 +41,6 @@ impl Status {
             Status::NoMemory => 6,
             Status::TooLarge => 7,
             Status::NotYet => 8,
-        }
-    }
-
-    /// What is printed, but for the line of a text that is not in the subset or too large.
-    pub(crate) fn text(self) -> &'static [u8]
-        ensures { result.now ≡ text_of self }
-    {
-        match self {
-            Status::Yes => b"findings: 0\n",
-            _ => b"",
         }
     }
 }

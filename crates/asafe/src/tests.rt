@@ -238,7 +238,15 @@ fn devices_fail(rt: HostRuntime) -> Result<(), Fail> {
         (ABORTS, 0, 100, 100, 0, Status::Yes, FINDINGS),
         (ABORTS, 2, 100, 100, 2, Status::Yes, FINDINGS),
         (ABORTS, 0, 12, 1, 0, Status::Yes, FINDINGS),
-        (ABORTS, 1, 100, 100, 0, Status::ReadFault, ""),
+        (
+            ABORTS,
+            1,
+            100,
+            100,
+            0,
+            Status::ReadFault,
+            "cannot read a.c\n",
+        ),
         (ABORTS, 0, 100, 100, 1, Status::WriteFault, ""),
         (ABORTS, 0, 100, 1, 2, Status::WriteFault, "f"),
         (ABORTS, 0, 100, 0, 0, Status::WriteFault, ""),
@@ -276,30 +284,100 @@ fn devices_fail(rt: HostRuntime) -> Result<(), Fail> {
     Ok(())
 }
 
-/// The status of these words over a shelf that holds a text under a.c, and how often a read failed.
-fn asked(alloc: Global, asked: &[&str]) -> Result<(Status, u64), Fail> {
+const USAGE: &str =
+    "usage: asafe certify FILE [--rules R] [--depth D] [--cert OUT] [--json] | check FILE CERT [--rules R] | show FILE | table | gen N\n";
+
+/// Whether the words, which blanks part, are answered this status over a shelf that holds a text under a.c, and print this.
+fn answers(alloc: Global, line: &str, status: Status, printed: &str) -> Result<bool, Fail> {
     let mut words = Vec::new(alloc);
-    for word in asked {
+    for word in line.split(' ') {
         words.push(word.to_string(alloc)?)?;
     }
     let mut shelf = MemShelf::new(alloc);
     shelf.set("a.c", ABORTS.as_bytes())?;
-    let mut out = MemSink::new(alloc, 100, 100)?;
-    let status = run(alloc, &words, &mut shelf, &mut out);
-    Ok((status, shelf.failed_reads()))
+    let mut out = MemSink::new(alloc, 200, 100)?;
+    let ended = run(alloc, &words, &mut shelf, &mut out);
+    Ok(ended == status && out.taken() == printed.as_bytes() && shelf.failed_reads() == 0)
 }
 
 #[test]
-fn words_and_names(rt: HostRuntime) -> Result<(), Fail> {
-    let alloc = rt.alloc();
-    let (status, failed) = asked(alloc, &["certify", "b.c"])?;
-    assert_eq!(rt; status, Status::ReadFault);
-    assert_eq!(rt; failed, 0);
-    assert_eq!(rt; asked(alloc, &["certify", "a.c"])?.0, Status::Yes);
-    assert_eq!(rt; asked(alloc, &["certify", "a.c", "b.c"])?.0, Status::Usage);
-    assert_eq!(rt; asked(alloc, &["certify"])?.0, Status::Usage);
-    assert_eq!(rt; asked(alloc, &[])?.0, Status::Usage);
-    assert_eq!(rt; asked(alloc, &["check", "a.c"])?.0, Status::Usage);
+fn words_of_jobs(rt: HostRuntime) -> Result<(), Fail> {
+    // Of each job, and of each option in both its forms.
+    let lines = [
+        ("certify a.c", Status::Yes, FINDINGS),
+        ("certify a.c --rules strict", Status::Yes, FINDINGS),
+        ("--depth=1 certify a.c --rules=later", Status::Yes, FINDINGS),
+        (
+            "certify a.c --json",
+            Status::Yes,
+            "{\"count\":0,\"findings\":[]}\n",
+        ),
+        ("certify -- a.c", Status::Yes, FINDINGS),
+        ("certify b.c", Status::ReadFault, "cannot read b.c\n"),
+        ("certify ", Status::ReadFault, "cannot read \n"),
+        ("certify a.c --cert c.cert", Status::NotYet, ""),
+        ("certify b.c --cert c.cert", Status::NotYet, ""),
+        ("check a.c c.cert", Status::NotYet, ""),
+        ("show a.c", Status::NotYet, ""),
+        ("gen 0", Status::NotYet, ""),
+        ("gen 2000", Status::NotYet, ""),
+    ];
+    for (line, status, printed) in lines {
+        assert!(rt; answers(rt.alloc(), line, status, printed)?, "{line}");
+    }
+    Ok(())
+}
+
+#[test]
+fn words_of_no_job(rt: HostRuntime) -> Result<(), Fail> {
+    let lines = [
+        "",
+        "certify",
+        "certify --",
+        "certify a.c b.c",
+        "certify a.c b.c c.c",
+        "check a.c",
+        "lint a.c",
+        "table a.c",
+        "show a.c --json",
+        "show a.c --rules usual",
+        "gen 1 --depth 1",
+        "check a.c c.cert --json",
+        "certify a.c --json --json",
+        "certify a.c --depth 1 --depth 1",
+        "certify a.c --depth",
+        "certify a.c --depth 3",
+        "certify a.c --rules lax",
+        "certify a.c --rules ",
+        "certify a.c --json=1",
+        "certify a.c --jsn",
+        "certify a.c -j",
+        "gen",
+        "gen 2001",
+        "gen 01",
+        "gen -1",
+        "gen +1",
+        "gen 123456789012345678901234567890",
+        "--help",
+        "-h",
+        "--version",
+        "help",
+        "--",
+    ];
+    for line in lines {
+        assert!(rt; answers(rt.alloc(), line, Status::Usage, USAGE)?, "{line}");
+    }
+    Ok(())
+}
+
+#[test]
+fn table_is_listed(rt: HostRuntime) -> Result<(), Fail> {
+    let mut words = Vec::new(rt.alloc());
+    words.push("table".to_string(rt.alloc())?)?;
+    let mut shelf = MemShelf::new(rt.alloc());
+    let mut out = MemSink::new(rt.alloc(), 100_000, 1_000)?;
+    assert_eq!(rt; run(rt.alloc(), &words, &mut shelf, &mut out), Status::Yes);
+    assert!(rt; out.taken().starts_with(b"WEXITSTATUS safe (i) i pure\n"));
     Ok(())
 }
 

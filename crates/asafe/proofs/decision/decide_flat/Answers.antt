@@ -1,23 +1,14 @@
 use Rattle.std.proofs.Common.{sym}
-use Rattle.asafe.proofs.Texts.{keeps, refuses}
+use Rattle.asafe.proofs.Texts.{keeps, refuses, is_not_flat}
 use Rattle.asafe.proofs.decision.decide_flat.Goals as goal
 
 pub returns-then-are_safe : goal.returns-then-are_safe
 returns-then-are_safe c = λ text lexed.
-    keeps text c.args.tokens.now c.in-Ok.program
-    (record {
-      lexed = lexed;
-      flat = c.in-Ok.ensures.shaped;
-      spelled = c.in-Ok.ensures.spelled;
-      only_tree = c.in-Ok.ensures.only;
-    }) (sym c.if-are_safe.ensures)
+    keeps text c.args.tokens.now c.requires c.in-Ok.program lexed c.in-Ok.ensures.shaped c.in-Ok.ensures.spelled (sym c.if-are_safe.ensures)
 
 pub returns-in-Ok : goal.returns-in-Ok
 returns-in-Ok c = λ text lexed.
-    refuses text c.args.tokens.now c.in-Ok.program
-    (record {
-      lexed = lexed;
-      flat = c.in-Ok.ensures.shaped;
-      spelled = c.in-Ok.ensures.spelled;
-      only_tree = c.in-Ok.ensures.only;
-    }) (sym c.if-are_safe.ensures)
+    refuses text c.args.tokens.now c.requires c.in-Ok.program lexed c.in-Ok.ensures.shaped c.in-Ok.ensures.spelled (sym c.if-are_safe.ensures)
+
+pub returns-in-NotFlat : goal.returns-in-NotFlat
+returns-in-NotFlat c = λ text lexed. is_not_flat text c.args.tokens.now c.requires lexed ?

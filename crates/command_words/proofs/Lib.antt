@@ -1,0 +1,4 @@
+pub mod Found
+pub mod Numbers
+pub mod Walks
+pub mod StatedForms

@@ -1,2 +1,5 @@
 pub mod Listing
 pub mod Branches
+pub mod Parts
+pub mod NameLists
+pub mod Tags

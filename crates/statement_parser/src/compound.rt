@@ -11,10 +11,10 @@ ghost use Rattle.c_grammar.specs.Rules.{statement_by, else_by};
 ghost use Rattle.expression_parser.specs.Gives.{Gives};
 ghost use Rattle.statement_parser.specs.Nests.{Nests};
 ghost use Rattle.statement_parser.specs.Parts.{for_tested, for_repeated, switched};
-ghost use Rattle.statement_parser.specs.Place.{view_place};
+ghost use Rattle.statement_parser.specs.Context.{view_context};
 
-use crate::optional::{optional, start};
-use crate::place::Place;
+use crate::context::Context;
+use crate::optional::{optional, start, unboxed};
 use crate::reader::{Found, Nested, Statements};
 use c_grammar::{Cursor, Kind};
 use c_tree::{Expr, ForStart, Stmt};
@@ -41,17 +41,17 @@ impl<
         &self,
         cursor: &mut Cursor<'_>,
         d: u32,
-        place: Place,
+        context: Context,
         owed: u32,
-    ) -> Result<Stmt, Refusal>
+    ) -> Result<Boxed<Stmt>, Refusal>
         requires nests { Nests self.now.budget (F.pre self.now.read) (F.post self.now.read) }
         requires small { d ≤ 1000 }
-        ensures { Gives view_statement (perform (statement_by self.now.types.now d (view_place place) owed k.OpenBrace) cursor.old) result cursor.new }
+        ensures { Gives view_statement (perform (statement_by self.now.types.now d (view_context context) owed k.OpenBrace) cursor.old) result cursor.new }
     {
         spend(cursor, owed, d + 1)?;
         cursor.take();
-        let found = self.block(cursor, d + 1, place.of_block())?;
-        Ok(Stmt::Block(found))
+        let found = self.block(cursor, d + 1, context.of_block())?;
+        Ok(Boxed::new(self.alloc, Stmt::Block(found))?)
     }
 
     /// Behind the branch of an if: an else and its branch, or nothing.
@@ -60,22 +60,25 @@ impl<
         &self,
         cursor: &mut Cursor<'_>,
         d: u32,
-        place: Place,
-        condition: Expr,
+        context: Context,
+        condition: Boxed<Expr>,
         branch: Boxed<Stmt>,
-    ) -> Result<Stmt, Refusal>
+    ) -> Result<Boxed<Stmt>, Refusal>
         requires nests { Nests self.now.budget (F.pre self.now.read) (F.post self.now.read) }
         requires small { d ≤ 1000 }
-        ensures { Gives view_statement (perform (look [] (else_by self.now.types.now d (view_place place) (view_expression condition) (view_statement branch))) cursor.old) result cursor.new }
+        ensures { Gives view_statement (perform (look [] (else_by self.now.types.now d (view_context context) (view_expression condition) (view_statement branch))) cursor.old) result cursor.new }
     {
         match cursor.kind() {
             Kind::Else => {
                 spend(cursor, 1, d + 2)?;
                 cursor.take();
-                let other = self.statement(cursor, d + 1, place.of_branch(), 0)?;
-                Ok(Stmt::If(condition, branch, Some(other)))
+                let other = self.statement(cursor, d + 1, context.of_branch(), 0)?;
+                Ok(Boxed::new(
+                    self.alloc,
+                    Stmt::If(condition.into_inner(), branch, Some(other)),
+                )?)
             }
-            _ => Ok(Stmt::If(condition, branch, None)),
+            _ => Ok(Boxed::new(self.alloc, Stmt::If(condition.into_inner(), branch, None))?),
         }
     }
 
@@ -84,21 +87,21 @@ impl<
         &self,
         cursor: &mut Cursor<'_>,
         d: u32,
-        place: Place,
+        context: Context,
         owed: u32,
-    ) -> Result<Stmt, Refusal>
+    ) -> Result<Boxed<Stmt>, Refusal>
         requires nests { Nests self.now.budget (F.pre self.now.read) (F.post self.now.read) }
         requires small { d ≤ 1000 }
         requires few { owed ≤ 999 }
-        ensures { Gives view_statement (perform (statement_by self.now.types.now d (view_place place) owed k.If) cursor.old) result cursor.new }
+        ensures { Gives view_statement (perform (statement_by self.now.types.now d (view_context context) owed k.If) cursor.old) result cursor.new }
     {
         spend(cursor, owed + 2, d + 2)?;
         cursor.take();
         expect(cursor, Kind::OpenParen)?;
         let condition = self.expression(cursor, d + 1, 1, 0)?;
         expect(cursor, Kind::CloseParen)?;
-        let branch = self.statement(cursor, d + 1, place.of_branch(), 0)?;
-        self.alternative(cursor, d, place, condition, branch)
+        let branch = self.statement(cursor, d + 1, context.of_branch(), 0)?;
+        self.alternative(cursor, d, context, condition, branch)
     }
 
     /// A while.
@@ -107,21 +110,21 @@ impl<
         &self,
         cursor: &mut Cursor<'_>,
         d: u32,
-        place: Place,
+        context: Context,
         owed: u32,
-    ) -> Result<Stmt, Refusal>
+    ) -> Result<Boxed<Stmt>, Refusal>
         requires nests { Nests self.now.budget (F.pre self.now.read) (F.post self.now.read) }
         requires small { d ≤ 1000 }
         requires few { owed ≤ 999 }
-        ensures { Gives view_statement (perform (statement_by self.now.types.now d (view_place place) owed k.While) cursor.old) result cursor.new }
+        ensures { Gives view_statement (perform (statement_by self.now.types.now d (view_context context) owed k.While) cursor.old) result cursor.new }
     {
         spend(cursor, owed + 2, d + 2)?;
         cursor.take();
         expect(cursor, Kind::OpenParen)?;
         let condition = self.expression(cursor, d + 1, 1, 0)?;
         expect(cursor, Kind::CloseParen)?;
-        let repeated = self.statement(cursor, d + 1, place.of_loop(), 0)?;
-        Ok(Stmt::While(condition, repeated))
+        let repeated = self.statement(cursor, d + 1, context.of_loop(), 0)?;
+        Ok(Boxed::new(self.alloc, Stmt::While(condition.into_inner(), repeated))?)
     }
 
     /// A do, with its condition.
@@ -130,23 +133,23 @@ impl<
         &self,
         cursor: &mut Cursor<'_>,
         d: u32,
-        place: Place,
+        context: Context,
         owed: u32,
-    ) -> Result<Stmt, Refusal>
+    ) -> Result<Boxed<Stmt>, Refusal>
         requires nests { Nests self.now.budget (F.pre self.now.read) (F.post self.now.read) }
         requires small { d ≤ 1000 }
         requires few { owed ≤ 999 }
-        ensures { Gives view_statement (perform (statement_by self.now.types.now d (view_place place) owed k.Do) cursor.old) result cursor.new }
+        ensures { Gives view_statement (perform (statement_by self.now.types.now d (view_context context) owed k.Do) cursor.old) result cursor.new }
     {
         spend(cursor, owed + 2, d + 2)?;
         cursor.take();
-        let repeated = self.statement(cursor, d + 1, place.of_loop(), 0)?;
+        let repeated = self.statement(cursor, d + 1, context.of_loop(), 0)?;
         expect(cursor, Kind::While)?;
         expect(cursor, Kind::OpenParen)?;
         let condition = self.expression(cursor, d + 1, 1, 0)?;
         expect(cursor, Kind::CloseParen)?;
         expect(cursor, Kind::Semicolon)?;
-        Ok(Stmt::DoWhile(repeated, condition))
+        Ok(Boxed::new(self.alloc, Stmt::DoWhile(repeated, condition.into_inner()))?)
     }
 
     /// A for, behind its closing bracket.
@@ -155,17 +158,20 @@ impl<
         &self,
         cursor: &mut Cursor<'_>,
         d: u32,
-        place: Place,
-        first: ForStart,
-        test: Option<Expr>,
-        step: Option<Expr>,
-    ) -> Result<Stmt, Refusal>
+        context: Context,
+        first: Boxed<ForStart>,
+        test: Option<Boxed<Expr>>,
+        step: Option<Boxed<Expr>>,
+    ) -> Result<Boxed<Stmt>, Refusal>
         requires nests { Nests self.now.budget (F.pre self.now.read) (F.post self.now.read) }
         requires small { d ≤ 998 }
-        ensures { Gives view_statement (perform (for_repeated self.now.types.now d (view_place place) (view_start first) (option_map view_expression test) (option_map view_expression step)) cursor.old) result cursor.new }
+        ensures { Gives view_statement (perform (for_repeated self.now.types.now d (view_context context) (view_start first) (option_map view_expression test) (option_map view_expression step)) cursor.old) result cursor.new }
     {
-        let repeated = self.statement(cursor, d + 1, place.of_loop(), 0)?;
-        Ok(Stmt::For(first, test, step, repeated))
+        let repeated = self.statement(cursor, d + 1, context.of_loop(), 0)?;
+        Ok(Boxed::new(
+            self.alloc,
+            Stmt::For(first.into_inner(), unboxed(test), unboxed(step), repeated),
+        )?)
     }
 
     /// A for, behind what it begins with.
@@ -173,16 +179,16 @@ impl<
         &self,
         cursor: &mut Cursor<'_>,
         d: u32,
-        place: Place,
-        first: ForStart,
-    ) -> Result<Stmt, Refusal>
+        context: Context,
+        first: Boxed<ForStart>,
+    ) -> Result<Boxed<Stmt>, Refusal>
         requires nests { Nests self.now.budget (F.pre self.now.read) (F.post self.now.read) }
         requires small { d ≤ 998 }
-        ensures { Gives view_statement (perform (for_tested self.now.types.now d (view_place place) (view_start first)) cursor.old) result cursor.new }
+        ensures { Gives view_statement (perform (for_tested self.now.types.now d (view_context context) (view_start first)) cursor.old) result cursor.new }
     {
         let test = optional(self.alloc, self.types, cursor, d + 1, Kind::Semicolon)?;
         let step = optional(self.alloc, self.types, cursor, d + 1, Kind::CloseParen)?;
-        self.for_repeated(cursor, d, place, first, test, step)
+        self.for_repeated(cursor, d, context, first, test, step)
     }
 
     /// A for.
@@ -190,19 +196,19 @@ impl<
         &self,
         cursor: &mut Cursor<'_>,
         d: u32,
-        place: Place,
+        context: Context,
         owed: u32,
-    ) -> Result<Stmt, Refusal>
+    ) -> Result<Boxed<Stmt>, Refusal>
         requires nests { Nests self.now.budget (F.pre self.now.read) (F.post self.now.read) }
         requires small { d ≤ 1000 }
         requires few { owed ≤ 999 }
-        ensures { Gives view_statement (perform (statement_by self.now.types.now d (view_place place) owed k.For) cursor.old) result cursor.new }
+        ensures { Gives view_statement (perform (statement_by self.now.types.now d (view_context context) owed k.For) cursor.old) result cursor.new }
     {
         spend(cursor, owed + 1, d + 2)?;
         cursor.take();
         expect(cursor, Kind::OpenParen)?;
         let first = start(self.alloc, self.types, cursor, d + 1)?;
-        self.for_tested(cursor, d, place, first)
+        self.for_tested(cursor, d, context, first)
     }
 
     /// A switch, behind the opening brace.
@@ -211,16 +217,16 @@ impl<
         &self,
         cursor: &mut Cursor<'_>,
         d: u32,
-        place: Place,
-        value: Expr,
-    ) -> Result<Stmt, Refusal>
+        context: Context,
+        value: Boxed<Expr>,
+    ) -> Result<Boxed<Stmt>, Refusal>
         requires nests { Nests self.now.budget (F.pre self.now.read) (F.post self.now.read) }
         requires small { d ≤ 998 }
-        ensures { Gives view_statement (perform (switched self.now.types.now d (view_place place) (view_expression value)) cursor.old) result cursor.new }
+        ensures { Gives view_statement (perform (switched self.now.types.now d (view_context context) (view_expression value)) cursor.old) result cursor.new }
     {
-        let found = self.block(cursor, d + 2, place.of_switch())?;
+        let found = self.block(cursor, d + 2, context.of_switch())?;
         let inner = as_block(self.alloc, found)?;
-        Ok(Stmt::Switch(value, inner))
+        Ok(Boxed::new(self.alloc, Stmt::Switch(value.into_inner(), inner))?)
     }
 
     /// A switch, with its block.
@@ -228,13 +234,13 @@ impl<
         &self,
         cursor: &mut Cursor<'_>,
         d: u32,
-        place: Place,
+        context: Context,
         owed: u32,
-    ) -> Result<Stmt, Refusal>
+    ) -> Result<Boxed<Stmt>, Refusal>
         requires nests { Nests self.now.budget (F.pre self.now.read) (F.post self.now.read) }
         requires small { d ≤ 1000 }
         requires few { owed ≤ 999 }
-        ensures { Gives view_statement (perform (statement_by self.now.types.now d (view_place place) owed k.Switch) cursor.old) result cursor.new }
+        ensures { Gives view_statement (perform (statement_by self.now.types.now d (view_context context) owed k.Switch) cursor.old) result cursor.new }
     {
         spend(cursor, owed + 2, d + 2)?;
         cursor.take();
@@ -242,6 +248,6 @@ impl<
         let value = self.expression(cursor, d + 1, 1, 0)?;
         expect(cursor, Kind::CloseParen)?;
         expect(cursor, Kind::OpenBrace)?;
-        self.switched(cursor, d, place, value)
+        self.switched(cursor, d, context, value)
     }
 }

@@ -7,9 +7,9 @@ ghost use Rattle.c_grammar.specs.Reading.{read};
 ghost use Rattle.c_grammar.specs.Rules.{an_expression, a_statement, all_statements};
 ghost use Rattle.expression_parser.specs.Gives.{Gives};
 ghost use Rattle.statement_parser.specs.Nests.{Nests};
-ghost use Rattle.statement_parser.specs.Place.{view_place};
+ghost use Rattle.statement_parser.specs.Context.{view_context};
 
-use crate::place::Place;
+use crate::context::Context;
 use c_grammar::Cursor;
 use c_tree::{Expr, Stmt};
 use expression_parser::grammar::Types;
@@ -22,9 +22,9 @@ use type_parser::nest::expression;
 #[derive(Clone, Copy)]
 pub enum Nested {
     /// A statement, whose first token makes so many nodes necessary besides its own.
-    Statement { place: Place, owed: u32 },
+    Statement { context: Context, owed: u32 },
     /// The statements of a block, with the closing brace.
-    Block { place: Place },
+    Block { context: Context },
 }
 
 #[derive(Drop)]
@@ -51,13 +51,13 @@ impl<
         &self,
         cursor: &mut Cursor<'_>,
         d: u32,
-        place: Place,
+        context: Context,
         owed: u32,
     ) -> Result<Boxed<Stmt>, Refusal>
         requires nests { Nests self.now.budget (F.pre self.now.read) (F.post self.now.read) }
         requires small { d ≤ 1000 }
         requires few { owed ≤ 999 }
-        ensures { Gives view_statement (read (a_statement self.now.types.now d (view_place place) owed) cursor.old) result cursor.new }
+        ensures { Gives view_statement (read (a_statement self.now.types.now d (view_context context) owed) cursor.old) result cursor.new }
     {
         match (self.read)(
             self.alloc,
@@ -65,7 +65,7 @@ impl<
             cursor,
             self.budget,
             d,
-            Nested::Statement { place, owed },
+            Nested::Statement { context, owed },
         )? {
             Found::Statement(found) => Ok(found),
             _ => Err(Refusal::NoMemory),
@@ -77,11 +77,11 @@ impl<
         &self,
         cursor: &mut Cursor<'_>,
         d: u32,
-        place: Place,
+        context: Context,
     ) -> Result<Items<Stmt>, Refusal>
         requires nests { Nests self.now.budget (F.pre self.now.read) (F.post self.now.read) }
         requires small { d ≤ 1000 }
-        ensures { Gives (λ ss. statements_of (map view_statement ss)) (read (all_statements self.now.types.now d (view_place place)) cursor.old) result cursor.new }
+        ensures { Gives (λ ss. statements_of (map view_statement ss)) (read (all_statements self.now.types.now d (view_context context)) cursor.old) result cursor.new }
     {
         match (self.read)(
             self.alloc,
@@ -89,7 +89,7 @@ impl<
             cursor,
             self.budget,
             d,
-            Nested::Block { place },
+            Nested::Block { context },
         )? {
             Found::Block(found) => Ok(found),
             _ => Err(Refusal::NoMemory),
@@ -103,7 +103,7 @@ impl<
         d: u32,
         least: u8,
         owed: u32,
-    ) -> Result<Expr, Refusal>
+    ) -> Result<Boxed<Expr>, Refusal>
         requires small { d ≤ 1001 }
         requires few { owed ≤ 1000 }
         ensures { Gives view_expression (read (an_expression self.now.types.now d least owed) cursor.old) result cursor.new }

@@ -3,3 +3,4 @@ pub mod Branches
 pub mod Parts
 pub mod NameLists
 pub mod Tags
+pub mod Conditions

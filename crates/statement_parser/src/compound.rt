@@ -10,7 +10,7 @@ ghost use Rattle.c_grammar.specs.Performing.{perform};
 ghost use Rattle.c_grammar.specs.Rules.{statement_by, else_by};
 ghost use Rattle.expression_parser.specs.Gives.{Gives};
 ghost use Rattle.statement_parser.specs.Nests.{Nests};
-ghost use Rattle.statement_parser.specs.Parts.{for_tested, for_repeated, switched};
+ghost use Rattle.statement_parser.specs.Parts.{condition, if_branch, while_repeated, do_condition, do_ended, for_tested, for_repeated, switched};
 ghost use Rattle.statement_parser.specs.Context.{view_context};
 
 use crate::context::Context;
@@ -23,6 +23,7 @@ use expression_parser::refusal::Refusal;
 use expression_parser::steps::{expect, spend};
 use sqlite_items::{Boxed, Items};
 use std::alloc::{AllocError, Global};
+use type_parser::nest::expression;
 
 /// Statements as one.
 #[tactic(auto, using(c_tree::proofs::StatementViewLemmas::view_Stmt_Block))]
@@ -30,6 +31,60 @@ fn as_block(alloc: Global, found: Items<Stmt>) -> Result<Boxed<Stmt>, AllocError
     ensures { IfOk result (λ b. view_statement b ≡ block (statements_of (map view_statement found))) }
 {
     Boxed::new(alloc, Stmt::Block(found))
+}
+
+/// What an if, a while or a switch begins with: its word, and an expression in brackets.
+fn condition(
+    alloc: Global,
+    types: &Types<'_>,
+    cursor: &mut Cursor<'_>,
+    d: u32,
+    owed: u32,
+) -> Result<Boxed<Expr>, Refusal>
+    requires small { d ≤ 1000 }
+    requires few { owed ≤ 999 }
+    ensures reads { Gives view_expression (perform (condition types.now d owed) cursor.old) result cursor.new }
+    ensures shallow { IfOk result (λ _. d ≤ 998) }
+{
+    spend(cursor, owed + 2, d + 2)?;
+    cursor.take();
+    expect(cursor, Kind::OpenParen)?;
+    let found = expression(alloc, types, cursor, d + 1, 1, 0)?;
+    expect(cursor, Kind::CloseParen)?;
+    Ok(found)
+}
+
+/// The end of a do, with its semicolon.
+#[tactic(auto, using(c_tree::proofs::StatementViewLemmas::view_Stmt_DoWhile))]
+fn do_ended(
+    alloc: Global,
+    cursor: &mut Cursor<'_>,
+    repeated: Boxed<Stmt>,
+    condition: Boxed<Expr>,
+) -> Result<Boxed<Stmt>, Refusal>
+    ensures { Gives view_statement (perform (do_ended (view_statement repeated) (view_expression condition)) cursor.old) result cursor.new }
+{
+    expect(cursor, Kind::CloseParen)?;
+    expect(cursor, Kind::Semicolon)?;
+    let condition = condition.into_inner();
+    Ok(Boxed::new(alloc, Stmt::DoWhile(repeated, condition))?)
+}
+
+/// A do, behind what it repeats.
+fn do_condition(
+    alloc: Global,
+    types: &Types<'_>,
+    cursor: &mut Cursor<'_>,
+    d: u32,
+    repeated: Boxed<Stmt>,
+) -> Result<Boxed<Stmt>, Refusal>
+    requires { d ≤ 1000 }
+    ensures { Gives view_statement (perform (do_condition types.now d (view_statement repeated)) cursor.old) result cursor.new }
+{
+    expect(cursor, Kind::While)?;
+    expect(cursor, Kind::OpenParen)?;
+    let condition = expression(alloc, types, cursor, d + 1, 1, 0)?;
+    do_ended(alloc, cursor, repeated, condition)
 }
 
 impl<
@@ -54,8 +109,29 @@ impl<
         Ok(Boxed::new(self.alloc, Stmt::Block(found))?)
     }
 
+    /// An else and its branch.
+    #[tactic(auto, using(crate::proofs::Branches::view_if_else))]
+    fn other_branch(
+        &self,
+        cursor: &mut Cursor<'_>,
+        d: u32,
+        context: Context,
+        condition: Boxed<Expr>,
+        branch: Boxed<Stmt>,
+    ) -> Result<Boxed<Stmt>, Refusal>
+        requires nests { Nests self.now.budget (F.pre self.now.read) (F.post self.now.read) }
+        requires small { d ≤ 1000 }
+        ensures { Gives view_statement (perform (else_by self.now.types.now d (view_context context) (view_expression condition) (view_statement branch) k.Else) cursor.old) result cursor.new }
+    {
+        spend(cursor, 1, d + 2)?;
+        cursor.take();
+        let other = self.statement(cursor, d + 1, context.of_branch(), 0)?;
+        let condition = condition.into_inner();
+        Ok(Boxed::new(self.alloc, Stmt::If(condition, branch, Some(other)))?)
+    }
+
     /// Behind the branch of an if: an else and its branch, or nothing.
-    #[tactic(auto, using(crate::proofs::Branches::view_if, crate::proofs::Branches::view_if_else))]
+    #[tactic(auto, using(crate::proofs::Branches::view_if))]
     fn alternative(
         &self,
         cursor: &mut Cursor<'_>,
@@ -69,17 +145,25 @@ impl<
         ensures { Gives view_statement (perform (look [] (else_by self.now.types.now d (view_context context) (view_expression condition) (view_statement branch))) cursor.old) result cursor.new }
     {
         match cursor.kind() {
-            Kind::Else => {
-                spend(cursor, 1, d + 2)?;
-                cursor.take();
-                let other = self.statement(cursor, d + 1, context.of_branch(), 0)?;
-                Ok(Boxed::new(
-                    self.alloc,
-                    Stmt::If(condition.into_inner(), branch, Some(other)),
-                )?)
-            }
+            Kind::Else => self.other_branch(cursor, d, context, condition, branch),
             _ => Ok(Boxed::new(self.alloc, Stmt::If(condition.into_inner(), branch, None))?),
         }
+    }
+
+    /// An if, behind its condition.
+    fn if_branch(
+        &self,
+        cursor: &mut Cursor<'_>,
+        d: u32,
+        context: Context,
+        condition: Boxed<Expr>,
+    ) -> Result<Boxed<Stmt>, Refusal>
+        requires nests { Nests self.now.budget (F.pre self.now.read) (F.post self.now.read) }
+        requires small { d ≤ 998 }
+        ensures { Gives view_statement (perform (if_branch self.now.types.now d (view_context context) (view_expression condition)) cursor.old) result cursor.new }
+    {
+        let branch = self.statement(cursor, d + 1, context.of_branch(), 0)?;
+        self.alternative(cursor, d, context, condition, branch)
     }
 
     /// An if, with an else or without.
@@ -95,17 +179,29 @@ impl<
         requires few { owed ≤ 999 }
         ensures { Gives view_statement (perform (statement_by self.now.types.now d (view_context context) owed k.If) cursor.old) result cursor.new }
     {
-        spend(cursor, owed + 2, d + 2)?;
-        cursor.take();
-        expect(cursor, Kind::OpenParen)?;
-        let condition = self.expression(cursor, d + 1, 1, 0)?;
-        expect(cursor, Kind::CloseParen)?;
-        let branch = self.statement(cursor, d + 1, context.of_branch(), 0)?;
-        self.alternative(cursor, d, context, condition, branch)
+        let condition = condition(self.alloc, self.types, cursor, d, owed)?;
+        self.if_branch(cursor, d, context, condition)
+    }
+
+    /// A while, behind its condition.
+    #[tactic(auto, using(c_tree::proofs::StatementViewLemmas::view_Stmt_While))]
+    fn while_repeated(
+        &self,
+        cursor: &mut Cursor<'_>,
+        d: u32,
+        context: Context,
+        condition: Boxed<Expr>,
+    ) -> Result<Boxed<Stmt>, Refusal>
+        requires nests { Nests self.now.budget (F.pre self.now.read) (F.post self.now.read) }
+        requires small { d ≤ 998 }
+        ensures { Gives view_statement (perform (while_repeated self.now.types.now d (view_context context) (view_expression condition)) cursor.old) result cursor.new }
+    {
+        let repeated = self.statement(cursor, d + 1, context.of_loop(), 0)?;
+        let condition = condition.into_inner();
+        Ok(Boxed::new(self.alloc, Stmt::While(condition, repeated))?)
     }
 
     /// A while.
-    #[tactic(auto, using(c_tree::proofs::StatementViewLemmas::view_Stmt_While))]
     pub fn while_loop(
         &self,
         cursor: &mut Cursor<'_>,
@@ -118,17 +214,11 @@ impl<
         requires few { owed ≤ 999 }
         ensures { Gives view_statement (perform (statement_by self.now.types.now d (view_context context) owed k.While) cursor.old) result cursor.new }
     {
-        spend(cursor, owed + 2, d + 2)?;
-        cursor.take();
-        expect(cursor, Kind::OpenParen)?;
-        let condition = self.expression(cursor, d + 1, 1, 0)?;
-        expect(cursor, Kind::CloseParen)?;
-        let repeated = self.statement(cursor, d + 1, context.of_loop(), 0)?;
-        Ok(Boxed::new(self.alloc, Stmt::While(condition.into_inner(), repeated))?)
+        let condition = condition(self.alloc, self.types, cursor, d, owed)?;
+        self.while_repeated(cursor, d, context, condition)
     }
 
     /// A do, with its condition.
-    #[tactic(auto, using(c_tree::proofs::StatementViewLemmas::view_Stmt_DoWhile))]
     pub fn do_loop(
         &self,
         cursor: &mut Cursor<'_>,
@@ -144,12 +234,7 @@ impl<
         spend(cursor, owed + 2, d + 2)?;
         cursor.take();
         let repeated = self.statement(cursor, d + 1, context.of_loop(), 0)?;
-        expect(cursor, Kind::While)?;
-        expect(cursor, Kind::OpenParen)?;
-        let condition = self.expression(cursor, d + 1, 1, 0)?;
-        expect(cursor, Kind::CloseParen)?;
-        expect(cursor, Kind::Semicolon)?;
-        Ok(Boxed::new(self.alloc, Stmt::DoWhile(repeated, condition.into_inner()))?)
+        do_condition(self.alloc, self.types, cursor, d, repeated)
     }
 
     /// A for, behind its closing bracket.
@@ -211,7 +296,7 @@ impl<
         self.for_tested(cursor, d, context, first)
     }
 
-    /// A switch, behind the opening brace.
+    /// A switch, behind its value.
     #[tactic(auto, using(c_tree::proofs::StatementViewLemmas::view_Stmt_Switch))]
     fn switched(
         &self,
@@ -224,6 +309,7 @@ impl<
         requires small { d ≤ 998 }
         ensures { Gives view_statement (perform (switched self.now.types.now d (view_context context) (view_expression value)) cursor.old) result cursor.new }
     {
+        expect(cursor, Kind::OpenBrace)?;
         let found = self.block(cursor, d + 2, context.of_switch())?;
         let inner = as_block(self.alloc, found)?;
         Ok(Boxed::new(self.alloc, Stmt::Switch(value.into_inner(), inner))?)
@@ -242,12 +328,7 @@ impl<
         requires few { owed ≤ 999 }
         ensures { Gives view_statement (perform (statement_by self.now.types.now d (view_context context) owed k.Switch) cursor.old) result cursor.new }
     {
-        spend(cursor, owed + 2, d + 2)?;
-        cursor.take();
-        expect(cursor, Kind::OpenParen)?;
-        let value = self.expression(cursor, d + 1, 1, 0)?;
-        expect(cursor, Kind::CloseParen)?;
-        expect(cursor, Kind::OpenBrace)?;
+        let value = condition(self.alloc, self.types, cursor, d, owed)?;
         self.switched(cursor, d, context, value)
     }
 }

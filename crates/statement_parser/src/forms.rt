@@ -48,16 +48,24 @@ pub fn has_tag(all: &[SpecWord]) -> bool
     any_tag(all)
 }
 
-/// Whether the declared name may have an initialiser: a function has none.
+/// Whether a declarator is of a function.
 #[tactic(auto, using(c_tree::proofs::ViewLemmas::view_Declarator_Plain, c_tree::proofs::ViewLemmas::view_Declarator_Array, c_tree::proofs::ViewLemmas::view_Declarator_Function, c_tree::proofs::ViewLemmas::view_Declarator_Pointer))]
+pub fn is_function(d: &Declarator) -> bool
+    ensures { result ≡ rules.is_function (view_declarator d.now) }
+{
+    match d {
+        Declarator::Function(_, _, _) => true,
+        Declarator::Plain(_, _) | Declarator::Array(_, _, _) | Declarator::Pointer(_, _, _, _, _) =>
+            false,
+    }
+}
+
+/// Whether the declared name may have an initialiser: a function has none.
+#[tactic(auto, using(crate::proofs::Tags::no_function))]
 pub fn has_initializer(d: &Declarator) -> bool
     ensures { result ≡ rules.has_initializer (view_declarator d.now) }
 {
-    match d {
-        Declarator::Function(_, _, _) => false,
-        Declarator::Plain(_, _) | Declarator::Array(_, _, _) | Declarator::Pointer(_, _, _, _, _) =>
-            true,
-    }
+    !is_function(d)
 }
 
 /// Whether a declarator begins with a token of this kind.

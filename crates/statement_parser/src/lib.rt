@@ -21,6 +21,6 @@ mod reader;
 mod simple;
 mod statement;
 
-pub use forms::{begins_declarator, has_initializer, has_tag};
+pub use forms::{begins_declarator, has_initializer, has_tag, is_function};
 pub use function_body::body;
 pub use named::named_init;

@@ -1,4 +1,4 @@
-use Rattle.std.proofs.Common.{◌≡◌, [], ◌∷◌, ◌++◌, map, true, false, ap, ◌∙◌}
+use Rattle.std.proofs.Common.{◌≡◌, [], ◌∷◌, ◌++◌, map, true, false, ap, subst, ◌∙◌}
 use Rattle.c_tree.specs.StatementView.{view_named}
 use Rattle.c_grammar.specs.declared.kind.Kind.TheVariants as k
 use Rattle.c_grammar.specs.Kind.{kind, same_kind}
@@ -10,7 +10,7 @@ use Rattle.item_parser.proofs.outer.names.Goals as goal
 pub loop-alloc-init : goal.loop-alloc-init
 loop-alloc-init c =
     let one : map view_named c.push.new.self ≡ view_named c.args.first ∷ [] =
-    pushed view_named c.new-found.result c.push.new.self c.args.first c.in_ok-push.ensures.ok ∙ ap (λ z. map view_named z ++ view_named c.args.first ∷ []) c.new-found.ensures in
+    pushed view_named c.new-found.result c.push.new.self c.args.first (subst (λ z. c.push.new.self ≡ c.new-found.result ++ z ∷ []) c.into_inner.ensures c.in_ok-push.ensures.ok) ∙ ap (λ z. map view_named z ++ view_named c.args.first ∷ []) c.new-found.ensures in
     record {
       reads = names_begin c.args.storage c.args.scope.now c.behind_named.new.self (view_named c.args.first) (map view_named c.push.new.self) c.args.cursor.now one c.in_ok-behind_named.ensures;
       behind = behind_first c.args.storage c.args.scope.now c.behind_named.new.self (view_named c.args.first) (map view_named c.push.new.self) one c.in_ok-behind_named.ensures;
@@ -30,7 +30,7 @@ pub loop-alloc-preserved : goal.loop-alloc-preserved
 loop-alloc-preserved c =
     let is : same_kind (kind [] c.loop-alloc.cursor.rest) k.Comma ≡ true = cc in
     let more : map view_named c.push-in-loop-alloc.new.self ≡ map view_named c.loop-alloc.found ++ view_named c.in_ok-next.next ∷ [] =
-    pushed view_named c.loop-alloc.found c.push-in-loop-alloc.new.self c.in_ok-next.next c.in_ok-push-2.ensures.ok in
+    pushed view_named c.loop-alloc.found c.push-in-loop-alloc.new.self c.in_ok-next.next (subst (λ z. c.push-in-loop-alloc.new.self ≡ c.loop-alloc.found ++ z ∷ []) c.into_inner-in-loop-alloc.ensures c.in_ok-push-2.ensures.ok) in
     record {
       reads = loop_turn (map view_named c.push-in-loop-alloc.new.self) c.loop-alloc.invariant.reads
           (names_turn c.args.storage c.loop-alloc.scope c.behind_named-in-loop-alloc.new.self c.loop-alloc.cursor c.another.new.cursor (view_named c.in_ok-next.next) c.in_ok-behind_named-2.ensures is c.in_ok-next.ensures)

@@ -60,8 +60,14 @@ fn read_items(alloc: Global, tokens: &[Token]) -> Result<Items<Item>, ParseFault
     let mut cursor = Cursor::new(tokens, 1, 1);
     match items(alloc, &mut cursor) {
         Ok(items) => Ok(items),
-        Err(Refusal::Syntax(left)) => Err(ParseFault::Syntax(tokens.len() - left)),
-        Err(Refusal::Large(left)) => Err(ParseFault::Large(tokens.len() - left)),
+        Err(Refusal::Syntax(left)) => {
+            let token = tokens.len() - left;
+            Err(ParseFault::Syntax(token))
+        }
+        Err(Refusal::Large(left)) => {
+            let token = tokens.len() - left;
+            Err(ParseFault::Large(token))
+        }
         Err(Refusal::NoMemory) => Err(ParseFault::NoMemory),
     }
 }

@@ -92,6 +92,7 @@ fn declared_names(
                 return counted_names(alloc, types, cursor, d, storage, specs);
             }
             if d > 1000 {
+                // The depth of the specifiers was within the limits, so this never comes.
                 return Err(Refusal::NoMemory);
             }
             some_names(alloc, types, cursor, d, storage, specs)

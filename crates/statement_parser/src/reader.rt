@@ -68,6 +68,7 @@ impl<
             Nested::Statement { context, owed },
         )? {
             Found::Statement(found) => Ok(found),
+            // What was asked for is found, so this never comes.
             _ => Err(Refusal::NoMemory),
         }
     }
@@ -92,6 +93,7 @@ impl<
             Nested::Block { context },
         )? {
             Found::Block(found) => Ok(found),
+            // What was asked for is found, so this never comes.
             _ => Err(Refusal::NoMemory),
         }
     }

@@ -17,6 +17,6 @@ returns-clause-first c =
 pub returns-clause-answer : goal.returns-clause-answer
 returns-clause-answer c =
     elim c.match-read_items.branch [
-      | in-Ok w ↦ subst (λ f. IsFaultOf c.args.tokens.now f) (sym w.result-is) (answer_nested c.args.tokens.now c.args.k (map view_item w.in-Ok.items) c.requires w.in-Ok.ensures.answer)
+      | in-Ok w ↦ subst (λ f. IsFaultOf c.args.tokens.now f) (sym w.result-is) (answer_nested c.args.tokens.now c.args.k (map view_item w.in-Ok.field-0) c.requires w.in-Ok.ensures.answer)
       | in-Err w ↦ subst (λ f. IsFaultOf c.args.tokens.now f) (sym (w.result-is ∙ w.earlier.ensures)) (answer_before c.args.tokens.now c.args.k w.in-Err.fault c.requires w.in-Err.ensures.answer)
     ]

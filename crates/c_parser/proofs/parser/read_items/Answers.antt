@@ -6,13 +6,13 @@ use Rattle.c_parser.proofs.Leaving.{refused_within, exceeded_within}
 use Rattle.c_parser.proofs.Meaning.{refused_fault, exceeded_fault, got_read, read_as, refused_as, exceeded_as}
 use Rattle.c_parser.proofs.parser.read_items.Goals as goal
 
-pub overflow_sub-result : goal.overflow_sub-result
-overflow_sub-result c =
+pub overflow_sub-token : goal.overflow_sub-token
+overflow_sub-token c =
     let e = rw c.in-Err-Syntax.field-0-is at c.in-Err-Syntax.ensures in
     refused_within whole (begun c.args.tokens.now) c.in-Err-Syntax.left (ap (λ i. failure_of (read whole i)) (sym c.new-cursor.ensures) ∙ e.says)
 
-pub overflow_sub-result-in-Err-Large : goal.overflow_sub-result-in-Err-Large
-overflow_sub-result-in-Err-Large c =
+pub overflow_sub-token-in-Err-Large : goal.overflow_sub-token-in-Err-Large
+overflow_sub-token-in-Err-Large c =
     let e = rw c.in-Err-Large.field-0-is at c.in-Err-Large.ensures in
     exceeded_within whole (begun c.args.tokens.now) c.in-Err-Large.left (ap (λ i. failure_of (read whole i)) (sym c.new-cursor.ensures) ∙ e.says)
 

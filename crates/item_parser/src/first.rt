@@ -11,6 +11,7 @@ ghost use Rattle.c_grammar.specs.Body.{look};
 ghost use Rattle.c_grammar.specs.Performing.{perform};
 ghost use Rattle.c_grammar.specs.Reading.{read};
 ghost use Rattle.c_grammar.specs.Rules as rules;
+ghost use Rattle.c_grammar.specs.declared.kind.Kind.TheVariants as k;
 ghost use Rattle.expression_parser.specs.Gives.{Gives};
 ghost use Rattle.item_parser.specs.ItemParts as spec;
 
@@ -68,8 +69,24 @@ fn behind_first(
     }
 }
 
+/// An array that is the first declarator of an item, behind its stars and its name.
+#[tactic(auto, using(c_tree::proofs::ViewLemmas::view_Declarator_Array))]
+fn first_array(
+    alloc: Global,
+    types: &Types<'_>,
+    cursor: &mut Cursor<'_>,
+    stars: Stars,
+    name: Lexeme,
+) -> Result<Boxed<Declarator>, Refusal>
+    ensures { Gives view_declarator (perform (rules.first_declared_by types.now stars name k.OpenBracket) cursor.old) result cursor.new }
+{
+    rise(cursor)?;
+    let sizes = sizes(alloc, types, cursor, 3)?;
+    Ok(Boxed::new(alloc, Declarator::Array(stars, name, sizes))?)
+}
+
 /// The first declarator of an item, behind its stars and its name. An array is no function.
-#[tactic(auto, using(c_tree::proofs::ViewLemmas::view_Declarator_Plain, c_tree::proofs::ViewLemmas::view_Declarator_Array, c_tree::proofs::ViewLemmas::view_Declarator_Function))]
+#[tactic(auto, using(c_tree::proofs::ViewLemmas::view_Declarator_Plain, c_tree::proofs::ViewLemmas::view_Declarator_Function))]
 fn first_declared(
     alloc: Global,
     types: &Types<'_>,
@@ -80,11 +97,7 @@ fn first_declared(
     ensures { Gives view_declarator (perform (look [] (rules.first_declared_by types.now stars name)) cursor.old) result cursor.new }
 {
     match cursor.kind() {
-        Kind::OpenBracket => {
-            rise(cursor)?;
-            let sizes = sizes(alloc, types, cursor, 3)?;
-            Ok(Boxed::new(alloc, Declarator::Array(stars, name, sizes))?)
-        }
+        Kind::OpenBracket => first_array(alloc, types, cursor, stars, name),
         Kind::OpenParen => {
             cursor.take();
             let params = parameters(alloc, types, cursor, 2)?;

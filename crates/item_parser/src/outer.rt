@@ -1,6 +1,6 @@
 //! Names that are declared outside functions.
 
-ghost use Rattle.std.specs.Prelude.{◌≡◌, ◌∷◌, [], true, map, IfOk};
+ghost use Rattle.std.specs.Prelude.{◌≡◌, ◌∷◌, ◌++◌, [], true, map, IfOk, OnOk};
 ghost use Rattle.c_tree.specs.Shape.{behind_named, behind_names};
 ghost use Rattle.c_tree.specs.View.{view_declarator};
 ghost use Rattle.c_tree.specs.StatementView.{view_named};
@@ -20,7 +20,7 @@ use expression_parser::steps::{expect, spend};
 use program_scope::{Names, Scope};
 use sqlite_items::{Boxed, Items};
 use statement_parser::{has_initializer, named_init};
-use std::alloc::Global;
+use std::alloc::{AllocError, Global};
 use type_parser::nest::{declarator, type_declarator};
 
 /// Where no type is declared: the names that are types.
@@ -117,6 +117,20 @@ fn another(
     outer(alloc, scope, cursor, storage)
 }
 
+/// Puts a name behind those that were found, and into the scope.
+fn add_name(
+    scope: &mut Scope,
+    found: &mut Items<Named>,
+    storage: Storage,
+    next: Boxed<Named>,
+) -> Result<(), AllocError>
+    ensures scope { OnOk result (scope.new ≡ behind_named storage (view_named next) scope.old) }
+    ensures found { OnOk result (found.new ≡ found.old ++ next ∷ []) }
+{
+    scope.behind_named(storage, next.get())?;
+    found.push(next.into_inner())
+}
+
 /// The declared names behind the first, with the semicolon. The scope is then the one behind all of them.
 pub(crate) fn names(
     alloc: Global,
@@ -129,12 +143,10 @@ pub(crate) fn names(
     ensures behind { IfOk result (λ ns. scope.new ≡ behind_names storage (map view_named ns) scope.old) }
 {
     let mut found = Items::new(alloc);
-    scope.behind_named(storage, first.get())?;
-    found.push(first.into_inner())?;
+    add_name(scope, &mut found, storage, first)?;
     while same_kind(cursor.kind(), Kind::Comma) {
         let next = another(alloc, scope, cursor, storage)?;
-        scope.behind_named(storage, next.get())?;
-        found.push(next.into_inner())?;
+        add_name(scope, &mut found, storage, next)?;
     }
     expect(cursor, Kind::Semicolon)?;
     Ok(found)

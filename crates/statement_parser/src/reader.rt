@@ -1,22 +1,20 @@
 //! The rules for statements take the reader of the statements in them as a parameter, so that each is proved by itself.
 
 ghost use Rattle.std.specs.Prelude.{◌≡◌, ◌≤◌, map};
-ghost use Rattle.c_tree.specs.View.{view_expression};
 ghost use Rattle.c_tree.specs.StatementView.{view_statement, statements_of};
 ghost use Rattle.c_grammar.specs.Reading.{read};
-ghost use Rattle.c_grammar.specs.Rules.{an_expression, a_statement, all_statements};
+ghost use Rattle.c_grammar.specs.Rules.{a_statement, all_statements};
 ghost use Rattle.expression_parser.specs.Gives.{Gives};
 ghost use Rattle.statement_parser.specs.Nests.{Nests};
 ghost use Rattle.statement_parser.specs.Context.{view_context};
 
 use crate::context::Context;
 use c_grammar::Cursor;
-use c_tree::{Expr, Stmt};
+use c_tree::Stmt;
 use expression_parser::grammar::Types;
 use expression_parser::refusal::Refusal;
 use sqlite_items::{Boxed, Items};
 use std::alloc::Global;
-use type_parser::nest::expression;
 
 /// What may hold others of its kind.
 #[derive(Clone, Copy)]
@@ -96,20 +94,5 @@ impl<
             // What was asked for is found, so this never comes.
             _ => Err(Refusal::NoMemory),
         }
-    }
-
-    /// An expression of at least this level.
-    pub fn expression(
-        &self,
-        cursor: &mut Cursor<'_>,
-        d: u32,
-        least: u8,
-        owed: u32,
-    ) -> Result<Boxed<Expr>, Refusal>
-        requires small { d ≤ 1001 }
-        requires few { owed ≤ 1000 }
-        ensures { Gives view_expression (read (an_expression self.now.types.now d least owed) cursor.old) result cursor.new }
-    {
-        expression(self.alloc, self.types, cursor, d, least, owed)
     }
 }

@@ -93,4 +93,4 @@ all_fit fault.Syntax k ts xs shape limits same is = is.none xs shape (begins ts 
 all_fit fault.Nested k ts xs shape limits same is = nests k (spell xs) limits.brackets (subst (λ us. IsFirstNested us k) (sym same) is)
 
 pub none_passes : (k : ℕ) (ts : List Token) (xs : List ItemTree) → Shape xs → WithinLimits xs → spell xs ≡ ts → NoneWithinLimitsBegins ts k → ⊥
-none_passes k ts xs shape limits same is = is.none xs shape limits (begins ts k xs is.within same)
+none_passes k ts xs shape limits same is = is.none xs shape limits.few limits.shallow (begins ts k xs is.within same)

@@ -29,7 +29,7 @@ none_longer ts k j within below h = record { within = omega arith; none = λ xs 
 
 none_within_longer : (ts : Tokens) (k j : ℕ) → k ≤ length ts → j < k → NoneWithinLimitsBegins (take k ts) j → NoneWithinLimitsBegins ts j
 none_within_longer ts k j within below h =
-    record { within = omega arith; late = h.late; none = λ xs shape limits begins. h.none xs shape limits (begins_shorter ts k j xs within below begins) }
+    record { within = omega arith; late = h.late; none = λ xs shape few shallow begins. h.none xs shape few shallow (begins_shorter ts k j xs within below begins) }
 
 syntax_earlier : (ts : Tokens) (k j : ℕ) (b : Bool) → (b ≡ true → j < k) → IsFirstNested ts k → NoneBegins (take k ts) j → IsFault ts (if b then Syntax j else Nested k)
 syntax_earlier ts k j true below n h = let l = n.within in none_longer ts k j (omega arith) (below refl) h

@@ -1,6 +1,7 @@
 -- What an end of reading says of the tokens.
-use Rattle.std.proofs.Common.{◌≡◌, ℕ, zero, suc, ◌+◌, ◌-◌, ◌<◌, ◌≤◌, ◌⊎◌, inl, inr, List, [], ◌∷◌, ◌++◌, length, take, drop, Some, refl, sym, ap, subst, ◌∙◌, ⊎_elim, append_assoc, length-append, length-take-le, take-append-drop, arith}
+use Rattle.std.proofs.Common.{◌≡◌, ℕ, zero, suc, ◌+◌, ◌-◌, ◌<◌, ◌≤◌, ◌⊎◌, inl, inr, List, [], ◌∷◌, ◌++◌, length, take, drop, Some, Ok, Err, refl, sym, ap, subst, ◌∙◌, ⊎_elim, append_assoc, length-append, length-take-le, take-append-drop, arith}
 use Rattle.std.proofs.str.Laws.{order}
+use Rattle.base_core.specs.Limits.{most_open}
 use Rattle.base_core.specs.declared.token.Token.{Token}
 use Rattle.c_tree.specs.Marks.{Tokens}
 use Rattle.c_tree.specs.Tree.{ItemTree}
@@ -14,8 +15,9 @@ use Rattle.c_grammar.proofs.Programs.{whole, begun, found, unique, refused_means
 use Rattle.grammar_limits.proofs.Late.{exceeded_late}
 use Rattle.c_parser.specs.declared.fault.ParseFault.{ParseFault}
 use Rattle.c_parser.specs.declared.fault.ParseFault.TheVariants.{Syntax, Nested, Large, NoMemory}
-use Rattle.c_parser.specs.Faults.{BeginsWith, NoneBegins, NoneWithinLimitsBegins}
-use Rattle.c_parser.specs.Reading.{IsRead, IsFault, IsNoMemory}
+use Rattle.c_parser.specs.Faults.{BeginsWith, NoneBegins, NoneWithinLimitsBegins, IsFirstNested}
+use Rattle.c_parser.specs.Reading.{IsRead, IsFault, IsNoMemory, earlier}
+use Rattle.c_parser.specs.Answer.{answer_of, reading_of, stopped_at, IsAnswer, IsFaultOf, IsReadAs}
 use Rattle.c_parser.proofs.AllStay.{got_fits}
 use Rattle.c_parser.proofs.Leaving.{refused_within, exceeded_within}
 
@@ -62,9 +64,9 @@ exceeded_fault ts left e =
     let late = exceeded_late ts at.0 at.1 in record {
       within = omega arith;
       late = omega (arith, late, at.2);
-      none = λ xs shape limits begins. none_begin ts (spell xs) left below
-          (λ u s s' t is n z. exceeded_means u s t (subst (λ us. failure_of (read whole (begun us)) ≡ Some (past_limit (suc (length s)))) is (e ∙ ap (λ m. Some (past_limit m)) n)) xs shape limits.few limits.shallow s' z)
-          (λ n z. exceeded_end ts (e ∙ ap (λ m. Some (past_limit m)) n) xs shape limits.few limits.shallow z)
+      none = λ xs shape few shallow begins. none_begin ts (spell xs) left below
+          (λ u s s' t is n z. exceeded_means u s t (subst (λ us. failure_of (read whole (begun us)) ≡ Some (past_limit (suc (length s)))) is (e ∙ ap (λ m. Some (past_limit m)) n)) xs shape few shallow s' z)
+          (λ n z. exceeded_end ts (e ∙ ap (λ m. Some (past_limit m)) n) xs shape few shallow z)
           begins;
     }
 
@@ -96,5 +98,44 @@ blameless ts (Syntax k) xs h shape limits e = absurd (h.none xs shape (begins_it
 blameless ts (Nested k) xs h shape limits e =
     let nests : NestsAtMost 100 ts = subst (λ us. NestsAtMost 100 us) e limits.brackets in
     absurd (omega (arith, nests (suc k), h.more))
-blameless ts (Large k) xs h shape limits e = absurd (h.none xs shape limits (begins_itself ts k xs h.within e))
+blameless ts (Large k) xs h shape limits e = absurd (h.none xs shape limits.few limits.shallow (begins_itself ts k xs h.within e))
 blameless ts NoMemory xs h shape limits e = tt
+
+-- ---- what reading comes to
+
+-- the program
+pub read_as : (ts us : Tokens) (xs : List ItemTree) (m : Meter) → read whole (begun ts) ≡ got xs us m → Ok xs ≡ reading_of ts
+read_as ts us xs m e = sym (ap (answer_of (length ts)) e)
+
+refused_at : (o : Outcome Meter (List ItemTree)) (n left : ℕ) → failure_of o ≡ Some (no_rule left) → Err (Syntax (n - left)) ≡ answer_of n o
+refused_at (got a ts x) n left e = absurd cc
+refused_at (refused ts) n left e = let same : length ts ≡ left = cc in ap (λ m. Err (Syntax (n - m))) (sym same)
+refused_at (exceeded ts) n left e = absurd cc
+
+large_at : (o : Outcome Meter (List ItemTree)) (n left : ℕ) → failure_of o ≡ Some (past_limit left) → Err (Large (n - left)) ≡ answer_of n o
+large_at (got a ts x) n left e = absurd cc
+large_at (refused ts) n left e = absurd cc
+large_at (exceeded ts) n left e = let same : length ts ≡ left = cc in ap (λ m. Err (Large (n - m))) (sym same)
+
+-- or where it stops
+pub refused_as : (ts : Tokens) (left : ℕ) → failure_of (read whole (begun ts)) ≡ Some (no_rule left) → IsReadAs ts (Syntax (length ts - left))
+refused_as ts left e = inr (refused_at (read whole (begun ts)) (length ts) left e)
+
+pub exceeded_as : (ts : Tokens) (left : ℕ) → failure_of (read whole (begun ts)) ≡ Some (past_limit left) → IsReadAs ts (Large (length ts - left))
+exceeded_as ts left e = inr (large_at (read whole (begun ts)) (length ts) left e)
+
+-- ---- the answer
+
+pub answer_read : (ts : Tokens) (xs : List ItemTree) → NestsAtMost most_open ts → Ok xs ≡ reading_of ts → IsAnswer ts (Ok xs)
+answer_read ts xs h e = inl (h, e)
+
+pub answer_fault : (ts : Tokens) (fault : ParseFault) → NestsAtMost most_open ts → IsReadAs ts fault → IsFaultOf ts fault
+answer_fault ts fault h (inl e) = inl e
+answer_fault ts fault h (inr e) = inr (inl (h, e))
+
+pub answer_nested : (ts : Tokens) (k : ℕ) (xs : List ItemTree) → IsFirstNested ts k → Ok xs ≡ reading_of (take k ts) → IsFaultOf ts (Nested k)
+answer_nested ts k xs n e = inr (inr (k, n, ap (stopped_at k) e))
+
+pub answer_before : (ts : Tokens) (k : ℕ) (fault : ParseFault) → IsFirstNested ts k → IsReadAs (take k ts) fault → IsFaultOf ts (earlier fault k)
+answer_before ts k fault n (inl e) = inl (ap (λ f. earlier f k) e)
+answer_before ts k fault n (inr e) = inr (inr (k, n, ap (stopped_at k) e))

@@ -1,5 +1,6 @@
 -- What reading the tokens of a text comes to.
 use Rattle.std.specs.Prelude.{◌≡◌, ℕ, suc, ◌≤◌, nat_lt, if◌then◌else◌, List, length, take, Result, Ok, Err}
+use Rattle.base_core.specs.Limits.{most_open, most_nodes, most_depth}
 use Rattle.c_tree.specs.Marks.{Tokens}
 use Rattle.c_tree.specs.Tree.{ItemTree}
 use Rattle.c_tree.specs.Shape.{Shape}
@@ -15,8 +16,8 @@ use Rattle.c_parser.specs.Faults.{NoneBegins, NoneWithinLimitsBegins, IsFirstNes
 pub record IsRead (ts : Tokens) (xs : List ItemTree) : Type 0 where
   pub shape : Shape xs
   pub spelled : spell xs ≡ ts
-  pub few : length (nodes xs) ≤ 100000
-  pub shallow : depth xs ≤ 1000
+  pub few : length (nodes xs) ≤ most_nodes
+  pub shallow : depth xs ≤ most_depth
 
 -- the fault is in the tokens
 abbrev pub IsFault : Tokens → ParseFault → Type 0
@@ -27,9 +28,9 @@ IsFault ts NoMemory = Unit {0}
 
 -- no more than 100 brackets are open before the fault, nor at it, unless it tells of them
 abbrev pub IsFirstFault : Tokens → ParseFault → Type 0
-IsFirstFault ts (Syntax k) = NestsAtMost 100 (take (suc k) ts)
+IsFirstFault ts (Syntax k) = NestsAtMost most_open (take (suc k) ts)
 IsFirstFault ts (Nested k) = Unit {0}
-IsFirstFault ts (Large k) = NestsAtMost 100 (take (suc k) ts)
+IsFirstFault ts (Large k) = NestsAtMost most_open (take (suc k) ts)
 IsFirstFault ts NoMemory = Unit {0}
 
 -- of a fault in the tokens before token k, at which too many brackets are open first, and that of token k: the first

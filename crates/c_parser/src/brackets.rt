@@ -1,6 +1,7 @@
 //! Brackets that are open at a token.
 
 ghost use Rattle.std.specs.Prelude.{◌≡◌, MatchOption};
+ghost use Rattle.base_core.specs.Limits.{most_open};
 ghost use Rattle.c_tree.specs.Limits.{NestsAtMost, is_opener, is_closer};
 ghost use Rattle.c_parser.specs.Faults.{IsFirstNested};
 
@@ -11,7 +12,7 @@ const MAX_OPEN: usize = 100;
 
 /// The first token at which more than 100 brackets are open.
 pub(crate) fn first_nested(tokens: &[Token]) -> Option<usize>
-    ensures { MatchOption result (NestsAtMost 100 tokens.now) (λ k. IsFirstNested tokens.now k) }
+    ensures { MatchOption result (NestsAtMost most_open tokens.now) (λ k. IsFirstNested tokens.now k) }
 {
     let mut opened: usize = 0;
     let mut closed: usize = 0;

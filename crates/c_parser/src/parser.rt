@@ -1,4 +1,5 @@
-ghost use Rattle.std.specs.Prelude.{◌≡◌, ℕ, List, suc, take, map, IfOk, IsErrOf, MatchResult};
+ghost use Rattle.std.specs.Prelude.{◌≡◌, ℕ, List, suc, take, map, IfOk, IsErrOf, MatchResult, Ok};
+ghost use Rattle.base_core.specs.Limits.{most_open};
 ghost use Rattle.c_tree.specs.Tree.{ItemTree};
 ghost use Rattle.c_tree.specs.Shape.{Shape};
 ghost use Rattle.c_tree.specs.Spelling.{spell};
@@ -8,6 +9,7 @@ ghost use Rattle.c_tree.specs.ProgramTree.{trees};
 ghost use Rattle.node_places.specs.Starts.{starts, closes};
 ghost use Rattle.c_parser.specs.Faults.{NoneBegins, NoneWithinLimitsBegins, IsFirstNested};
 ghost use Rattle.c_parser.specs.Places.{place_at};
+ghost use Rattle.c_parser.specs.Answer.{IsAnswer, IsFaultOf, IsReadAs, reading_of};
 ghost use Rattle.c_parser.specs.Reading.{IsRead, IsFault, IsFirstFault, IsOkOrNoMemory, earlier};
 
 use crate::brackets::first_nested;
@@ -35,8 +37,9 @@ pub fn parse(alloc: Global, tokens: &Tokens) -> Result<Program, ParseFault>
     ensures syntax { (k : ℕ) → IsErrOf result (ParseFault.Syntax k) → NoneBegins tokens.now.tokens k }
     ensures nested { (k : ℕ) → IsErrOf result (ParseFault.Nested k) → IsFirstNested tokens.now.tokens k }
     ensures large { (k : ℕ) → IsErrOf result (ParseFault.Large k) → NoneWithinLimitsBegins tokens.now.tokens k }
-    ensures syntax_first { (k : ℕ) → IsErrOf result (ParseFault.Syntax k) → NestsAtMost 100 (take (suc k) tokens.now.tokens) }
-    ensures large_first { (k : ℕ) → IsErrOf result (ParseFault.Large k) → NestsAtMost 100 (take (suc k) tokens.now.tokens) }
+    ensures syntax_first { (k : ℕ) → IsErrOf result (ParseFault.Syntax k) → NestsAtMost most_open (take (suc k) tokens.now.tokens) }
+    ensures large_first { (k : ℕ) → IsErrOf result (ParseFault.Large k) → NestsAtMost most_open (take (suc k) tokens.now.tokens) }
+    ensures answer { MatchResult result (λ p. IsAnswer tokens.now.tokens (Ok (trees p))) (λ fault. IsFaultOf tokens.now.tokens fault) }
     ensures complete { (xs : List ItemTree) → Shape xs → WithinLimits xs → spell xs ≡ tokens.now.tokens → IsOkOrNoMemory result }
 {
     let all = tokens.as_slice();
@@ -51,21 +54,29 @@ pub fn parse(alloc: Global, tokens: &Tokens) -> Result<Program, ParseFault>
 
 /// The items that the tokens spell, however many brackets are open.
 fn read_items(alloc: Global, tokens: &[Token]) -> Result<Items<Item>, ParseFault>
-    ensures { MatchResult result (λ xs. IsRead tokens.now (map view_item xs)) (IsFault tokens.now) }
+    ensures fault { MatchResult result (λ xs. IsRead tokens.now (map view_item xs)) (IsFault tokens.now) }
+    ensures answer { MatchResult result (λ xs. Ok (map view_item xs) ≡ reading_of tokens.now) (IsReadAs tokens.now) }
 {
     let mut cursor = Cursor::new(tokens, 1, 1);
     match items(alloc, &mut cursor) {
         Ok(items) => Ok(items),
-        Err(Refusal::Syntax(left)) => Err(ParseFault::Syntax(tokens.len() - left)),
-        Err(Refusal::Large(left)) => Err(ParseFault::Large(tokens.len() - left)),
+        Err(Refusal::Syntax(left)) => {
+            let token = tokens.len() - left;
+            Err(ParseFault::Syntax(token))
+        }
+        Err(Refusal::Large(left)) => {
+            let token = tokens.len() - left;
+            Err(ParseFault::Large(token))
+        }
         Err(Refusal::NoMemory) => Err(ParseFault::NoMemory),
     }
 }
 
 /// The items that the tokens spell, where no more than 100 brackets are open.
 fn read_shallow(alloc: Global, tokens: &[Token]) -> Result<Items<Item>, ParseFault>
-    requires { NestsAtMost 100 tokens.now }
-    ensures { MatchResult result (λ xs. IsRead tokens.now (map view_item xs)) (λ fault. IsFault tokens.now fault × IsFirstFault tokens.now fault) }
+    requires { NestsAtMost most_open tokens.now }
+    ensures fault { MatchResult result (λ xs. IsRead tokens.now (map view_item xs)) (λ fault. IsFault tokens.now fault × IsFirstFault tokens.now fault) }
+    ensures answer { MatchResult result (λ xs. IsAnswer tokens.now (Ok (map view_item xs))) (λ fault. IsFaultOf tokens.now fault) }
 {
     match read_items(alloc, tokens) {
         Ok(items) => Ok(items),
@@ -79,6 +90,7 @@ fn before_bracket(alloc: Global, tokens: &[Token], k: usize) -> ParseFault
     requires { IsFirstNested tokens.now k }
     ensures fault { IsFault tokens.now result }
     ensures first { IsFirstFault tokens.now result }
+    ensures answer { IsFaultOf tokens.now result }
 {
     match read_items(alloc, &tokens[..k]) {
         Ok(_) => ParseFault::Nested(k),

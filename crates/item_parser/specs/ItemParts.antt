@@ -21,10 +21,6 @@ behind_declarator t c x = look [] (named_init_by t 3 (may_begin c x) x)
 abbrev pub another : Storage → Scope → Reads NamedTree
 another c s = spend 1 3 (skip (body.call (an_outer c s) done))
 
--- a declaration of one name alone
-abbrev pub single : Storage → Specifiers → DeclaratorTree → ItemTree
-single c ws x = declaration_item (record { storage = c; specs = ws; names = record { declarator = x; init = None } ∷ [] })
-
 -- a function, behind its declarator
 abbrev pub function_by : Types → Storage → Specifiers → DeclaratorTree → Reads ItemTree
 function_by t c ws x = skip (body.call (all_statements t 3 (of_block outside)) (λ ss. done (function_of c ws ss x)))

@@ -18,7 +18,7 @@ use expression_parser::infix::begins_type;
 use expression_parser::refusal::Refusal;
 use expression_parser::steps::{kind, refused, spend};
 use program_scope::{Names, Scope};
-use sqlite_items::Items;
+use sqlite_items::{Boxed, Items};
 use std::alloc::Global;
 use type_parser::nest::specifiers;
 
@@ -36,7 +36,7 @@ fn specified(
     scope: &mut Scope,
     cursor: &mut Cursor<'_>,
     storage: Storage,
-) -> Result<Item, Refusal>
+) -> Result<Boxed<Item>, Refusal>
     ensures reads { Gives view_item (perform (item_specifiers storage scope.old) cursor.old) result cursor.new }
     ensures behind { IfOk result (λ x. scope.new ≡ behind_item (view_item x) scope.old) }
 {
@@ -52,7 +52,7 @@ fn stored(
     scope: &mut Scope,
     cursor: &mut Cursor<'_>,
     storage: Storage,
-) -> Result<Item, Refusal>
+) -> Result<Boxed<Item>, Refusal>
     ensures reads { Gives view_item (perform (stored storage scope.old) cursor.old) result cursor.new }
     ensures behind { IfOk result (λ x. scope.new ≡ behind_item (view_item x) scope.old) }
 {
@@ -63,7 +63,7 @@ fn stored(
 
 /// An item: a function, or a declaration. The scope is then the one behind it.
 #[tactic(auto, using(expression_parser::proofs::Opens::item_performs))]
-fn item(alloc: Global, scope: &mut Scope, cursor: &mut Cursor<'_>) -> Result<Item, Refusal>
+fn item(alloc: Global, scope: &mut Scope, cursor: &mut Cursor<'_>) -> Result<Boxed<Item>, Refusal>
     ensures reads { Gives view_item (read (an_item scope.old) cursor.old) result cursor.new }
     ensures behind { IfOk result (λ x. scope.new ≡ behind_item (view_item x) scope.old) }
 {
@@ -82,7 +82,11 @@ fn item(alloc: Global, scope: &mut Scope, cursor: &mut Cursor<'_>) -> Result<Ite
 }
 
 /// An item, which takes a token at least: the refusal where it takes none never comes.
-fn one_item(alloc: Global, scope: &mut Scope, cursor: &mut Cursor<'_>) -> Result<Item, Refusal>
+fn one_item(
+    alloc: Global,
+    scope: &mut Scope,
+    cursor: &mut Cursor<'_>,
+) -> Result<Boxed<Item>, Refusal>
     ensures reads { Gives view_item (perform (one_item scope.old) cursor.old) result cursor.new }
     ensures behind { IfOk result (λ x. scope.new ≡ behind_item (view_item x) scope.old) }
     ensures shorter { IfOk result (λ _. length cursor.new.rest < length cursor.old.rest) }
@@ -99,7 +103,8 @@ pub fn items(alloc: Global, cursor: &mut Cursor<'_>) -> Result<Items<Item>, Refu
     let mut scope = Scope::first(alloc)?;
     let mut found = Items::new(alloc);
     while !same_kind(cursor.kind(), Kind::Nothing) {
-        found.push(one_item(alloc, &mut scope, cursor)?)?;
+        let next = one_item(alloc, &mut scope, cursor)?;
+        found.push(next.into_inner())?;
     }
     Ok(found)
 }

@@ -5,11 +5,13 @@ ghost use Rattle.c_tree.specs.declared.tree.Storage.TheVariants as st;
 ghost use Rattle.c_tree.specs.Shape as shape;
 ghost use Rattle.c_tree.specs.Shape.{IsNoTypedef, behind_specifiers, behind_item};
 ghost use Rattle.c_tree.specs.View.{view_specifier, view_declarator, specifiers_of};
-ghost use Rattle.c_tree.specs.StatementView.{view_item, view_statement, statements_of};
+ghost use Rattle.c_tree.specs.StatementView.{view_item, view_named, view_statement, statements_of};
+ghost use Rattle.c_tree.specs.Tree.{declaration_item};
 ghost use Rattle.c_grammar.specs.Body.{look};
 ghost use Rattle.c_grammar.specs.Performing.{perform};
 ghost use Rattle.c_grammar.specs.Reading.{read};
 ghost use Rattle.c_grammar.specs.Rules as rules;
+ghost use Rattle.c_grammar.specs.declared.kind.Kind.TheVariants as k;
 ghost use Rattle.expression_parser.specs.Gives.{Gives};
 ghost use Rattle.item_parser.specs.ItemParts as spec;
 
@@ -17,29 +19,17 @@ use crate::outer::{inner_types, names, outer};
 use base_core::Lexeme;
 use c_grammar::{Cursor, Kind};
 use c_tree::{Decl, Declarator, Function, Item, Named, Specs, Stars, Stmt, Storage};
-use declaration_parser::{begins_declarator, has_initializer, has_tag, named_init};
 use expression_parser::grammar::Types;
 use expression_parser::refusal::Refusal;
 use expression_parser::steps::{new_kind, refused, rise, spend, word};
 use program_scope::{Names, Scope};
-use sqlite_items::Items;
-use statement_parser::body;
+use sqlite_items::{Boxed, Items};
+use statement_parser::{
+    begins_declarator, body, has_initializer, has_tag, is_function, named_init,
+};
 use std::alloc::{AllocError, Global};
 use type_parser::nest::{parameters, pointer, sizes};
 use type_parser::pointer::stars;
-
-/// Whether a declarator is of a function.
-#[tactic(auto, using(c_tree::proofs::ViewLemmas::view_Declarator_Plain, c_tree::proofs::ViewLemmas::view_Declarator_Array, c_tree::proofs::ViewLemmas::view_Declarator_Function, c_tree::proofs::ViewLemmas::view_Declarator_Pointer))]
-fn is_function(d: &Declarator) -> bool
-    ensures { result ≡ rules.is_function (view_declarator d.now) }
-{
-    match d {
-        Declarator::Function(_, _, _) => true,
-        Declarator::Plain(_, _) => false,
-        Declarator::Array(_, _, _) => false,
-        Declarator::Pointer(_, _, _, _, _) => false,
-    }
-}
 
 /// Whether a declaration goes on with a token of this kind behind its first declarator.
 fn follows_first(d: &Declarator, kind: Kind) -> bool
@@ -54,19 +44,22 @@ fn follows_first(d: &Declarator, kind: Kind) -> bool
 }
 
 /// Behind the first declarator, which may be of a function: its body, or a declaration goes on.
-fn behind_first(cursor: &mut Cursor<'_>, found: Declarator) -> Result<Declarator, Refusal>
+fn behind_first(
+    cursor: &mut Cursor<'_>,
+    found: Boxed<Declarator>,
+) -> Result<Boxed<Declarator>, Refusal>
     ensures { Gives view_declarator (perform (look [] (rules.first_by (view_declarator found))) cursor.old) result cursor.new }
 {
     match cursor.kind() {
         Kind::OpenBrace => {
-            if is_function(&found) {
+            if is_function(found.get()) {
                 Ok(found)
             } else {
                 Err(refused(cursor))
             }
         }
         other => {
-            if follows_first(&found, other) {
+            if follows_first(found.get(), other) {
                 rise(cursor)?;
                 Ok(found)
             } else {
@@ -76,35 +69,55 @@ fn behind_first(cursor: &mut Cursor<'_>, found: Declarator) -> Result<Declarator
     }
 }
 
+/// An array that is the first declarator of an item, behind its stars and its name.
+#[tactic(auto, using(c_tree::proofs::ViewLemmas::view_Declarator_Array))]
+fn first_array(
+    alloc: Global,
+    types: &Types<'_>,
+    cursor: &mut Cursor<'_>,
+    stars: Stars,
+    name: Lexeme,
+) -> Result<Boxed<Declarator>, Refusal>
+    ensures { Gives view_declarator (perform (rules.first_declared_by types.now stars name k.OpenBracket) cursor.old) result cursor.new }
+{
+    rise(cursor)?;
+    let sizes = sizes(alloc, types, cursor, 3)?;
+    Ok(Boxed::new(alloc, Declarator::Array(stars, name, sizes))?)
+}
+
 /// The first declarator of an item, behind its stars and its name. An array is no function.
-#[tactic(auto, using(c_tree::proofs::ViewLemmas::view_Declarator_Plain, c_tree::proofs::ViewLemmas::view_Declarator_Array, c_tree::proofs::ViewLemmas::view_Declarator_Function))]
+#[tactic(auto, using(c_tree::proofs::ViewLemmas::view_Declarator_Plain, c_tree::proofs::ViewLemmas::view_Declarator_Function))]
 fn first_declared(
     alloc: Global,
     types: &Types<'_>,
     cursor: &mut Cursor<'_>,
     stars: Stars,
     name: Lexeme,
-) -> Result<Declarator, Refusal>
+) -> Result<Boxed<Declarator>, Refusal>
     ensures { Gives view_declarator (perform (look [] (rules.first_declared_by types.now stars name)) cursor.old) result cursor.new }
 {
     match cursor.kind() {
-        Kind::OpenBracket => {
-            rise(cursor)?;
-            let sizes = sizes(alloc, types, cursor, 3)?;
-            Ok(Declarator::Array(stars, name, sizes))
-        }
+        Kind::OpenBracket => first_array(alloc, types, cursor, stars, name),
         Kind::OpenParen => {
             cursor.take();
             let params = parameters(alloc, types, cursor, 2)?;
-            behind_first(cursor, Declarator::Function(stars, name, params))
+            let function = Boxed::new(alloc, Declarator::Function(stars, name, params))?;
+            behind_first(cursor, function)
         }
-        _ => behind_first(cursor, Declarator::Plain(stars, name)),
+        _ => {
+            let plain = Boxed::new(alloc, Declarator::Plain(stars, name))?;
+            behind_first(cursor, plain)
+        }
     }
 }
 
 /// The declarator of a function or of the first name of a declaration.
 #[tactic(auto, using(expression_parser::proofs::Opens::first_performs))]
-fn first(alloc: Global, types: &Types<'_>, cursor: &mut Cursor<'_>) -> Result<Declarator, Refusal>
+fn first(
+    alloc: Global,
+    types: &Types<'_>,
+    cursor: &mut Cursor<'_>,
+) -> Result<Boxed<Declarator>, Refusal>
     ensures { Gives view_declarator (read (rules.a_first types.now) cursor.old) result cursor.new }
 {
     let stars = stars(alloc, cursor)?;
@@ -122,62 +135,49 @@ fn first(alloc: Global, types: &Types<'_>, cursor: &mut Cursor<'_>) -> Result<De
     }
 }
 
-/// A declaration of one name alone.
-fn single(
+/// A declaration as an item.
+fn item_of(
     alloc: Global,
     storage: Storage,
     specs: Specs,
-    declarator: Declarator,
-) -> Result<Item, AllocError>
-    ensures { IfOk result (λ x. view_item x ≡ spec.single storage (specifiers_of (map view_specifier specs)) (view_declarator declarator)) }
+    names: Items<Named>,
+) -> Result<Boxed<Item>, AllocError>
+    ensures { IfOk result (λ x. view_item x ≡ declaration_item (record { storage = storage; specs = specifiers_of (map view_specifier specs); names = map view_named names })) }
 {
-    let mut names = Items::new(alloc);
-    names.push(Named {
-        declarator,
-        init: None,
-    })?;
-    Ok(Item::Decl(Decl {
+    let declaration = Decl {
         storage,
         specs,
         names,
-    }))
+    };
+    Boxed::new(alloc, Item::Decl(declaration))
 }
 
-/// A function of its declarator and the statements of its body. No other declarator stands before a body.
-#[tactic(auto, using(c_tree::proofs::ViewLemmas::view_Declarator_Plain, c_tree::proofs::ViewLemmas::view_Declarator_Array, c_tree::proofs::ViewLemmas::view_Declarator_Function, c_tree::proofs::ViewLemmas::view_Declarator_Pointer, c_tree::proofs::StatementViewLemmas::view_Stmt_Block))]
+/// A function of its declarator and the statements of its body. No other declarator stands before a body: the answers to those,
+/// want of memory, never come.
+#[tactic(auto, using(c_tree::proofs::ViewLemmas::view_Declarator_Function, c_tree::proofs::StatementViewLemmas::view_Stmt_Block))]
 fn function_of(
     alloc: Global,
     storage: Storage,
     specs: Specs,
     statements: Items<Stmt>,
-    declarator: Declarator,
-) -> Result<Item, AllocError>
+    declarator: Boxed<Declarator>,
+) -> Result<Boxed<Item>, AllocError>
     ensures { IfOk result (λ x. view_item x ≡ rules.function_of storage (specifiers_of (map view_specifier specs)) (statements_of (map view_statement statements)) (view_declarator declarator)) }
 {
-    match declarator {
-        Declarator::Function(stars, name, params) => Ok(Item::Function(Function {
-            storage,
-            specs,
-            stars,
-            name,
-            params,
-            body: Stmt::Block(statements),
-        })),
-        Declarator::Plain(stars, name) => {
-            single(alloc, storage, specs, Declarator::Plain(stars, name))
-        }
-        Declarator::Array(stars, name, sizes) => single(
+    match declarator.into_inner() {
+        Declarator::Function(stars, name, params) => Boxed::new(
             alloc,
-            storage,
-            specs,
-            Declarator::Array(stars, name, sizes),
+            Item::Function(Function {
+                storage,
+                specs,
+                stars,
+                name,
+                params,
+                body: Stmt::Block(statements),
+            }),
         ),
-        Declarator::Pointer(stars, quals, name, sizes, params) => single(
-            alloc,
-            storage,
-            specs,
-            Declarator::Pointer(stars, quals, name, sizes, params),
-        ),
+        Declarator::Plain(_, _) | Declarator::Array(_, _, _) | Declarator::Pointer(_, _, _, _, _) =>
+            Err(AllocError),
     }
 }
 
@@ -188,8 +188,8 @@ fn function(
     cursor: &mut Cursor<'_>,
     storage: Storage,
     specs: Specs,
-    declarator: Declarator,
-) -> Result<Item, Refusal>
+    declarator: Boxed<Declarator>,
+) -> Result<Boxed<Item>, Refusal>
     ensures { Gives view_item (perform (spec.function_by types.now storage (specifiers_of (map view_specifier specs)) (view_declarator declarator)) cursor.old) result cursor.new }
 {
     cursor.take();
@@ -211,15 +211,15 @@ fn function_item(
     cursor: &mut Cursor<'_>,
     storage: Storage,
     specs: Specs,
-    declarator: Declarator,
-) -> Result<Item, Refusal>
+    declarator: Boxed<Declarator>,
+) -> Result<Boxed<Item>, Refusal>
     ensures reads { Gives view_item (perform (spec.function_by (rules.only_types scope.old.types) storage (specifiers_of (map view_specifier specs)) (view_declarator declarator)) cursor.old) result cursor.new }
     ensures behind { IfOk result (λ x. scope.new ≡ behind_item (view_item x) scope.old) }
 {
     let none = Names::new(alloc);
     let types = inner_types(scope, &none);
     let found = function(alloc, &types, cursor, storage, specs, declarator)?;
-    let may = scope.behind_item(&found).is_ok();
+    let may = scope.behind_item(found.get()).is_ok();
     kept(found, may, Refusal::NoMemory)
 }
 
@@ -230,22 +230,18 @@ fn declaration(
     cursor: &mut Cursor<'_>,
     storage: Storage,
     specs: Specs,
-    declarator: Declarator,
-) -> Result<Item, Refusal>
+    declarator: Boxed<Declarator>,
+) -> Result<Boxed<Item>, Refusal>
     ensures reads { Gives view_item (spec.declared storage (specifiers_of (map view_specifier specs)) (behind_specifiers (specifiers_of (map view_specifier specs)) scope.old) (view_declarator declarator) cursor.old) result cursor.new }
     ensures behind { IfOk result (λ x. scope.new ≡ behind_item (view_item x) scope.old) }
 {
     scope.behind_specifiers(specs.as_slice())?;
-    let may_begin = has_initializer(&declarator);
+    let may_begin = has_initializer(declarator.get());
     let none = Names::new(alloc);
     let types = inner_types(scope, &none);
     let first = named_init(alloc, &types, cursor, 3, may_begin, declarator)?;
     let names = names(alloc, scope, cursor, storage, first)?;
-    Ok(Item::Decl(Decl {
-        storage,
-        specs,
-        names,
-    }))
+    Ok(item_of(alloc, storage, specs, names)?)
 }
 
 /// An item that is no typedef, behind its first declarator.
@@ -255,14 +251,14 @@ fn behind_declarator(
     cursor: &mut Cursor<'_>,
     storage: Storage,
     specs: Specs,
-    declarator: Declarator,
-) -> Result<Item, Refusal>
+    declarator: Boxed<Declarator>,
+) -> Result<Boxed<Item>, Refusal>
     ensures reads { Gives view_item (perform (look [] (rules.item_by storage (specifiers_of (map view_specifier specs)) (behind_specifiers (specifiers_of (map view_specifier specs)) scope.old) (view_declarator declarator))) cursor.old) result cursor.new }
     ensures behind { IfOk result (λ x. scope.new ≡ behind_item (view_item x) scope.old) }
 {
     match cursor.kind() {
         Kind::OpenBrace => {
-            if is_function(&declarator) {
+            if is_function(declarator.get()) {
                 function_item(alloc, scope, cursor, storage, specs, declarator)
             } else {
                 Err(refused(cursor))
@@ -279,7 +275,7 @@ fn named(
     cursor: &mut Cursor<'_>,
     storage: Storage,
     specs: Specs,
-) -> Result<Item, Refusal>
+) -> Result<Boxed<Item>, Refusal>
     ensures reads { Gives view_item (perform (spec.named storage (specifiers_of (map view_specifier specs)) (behind_specifiers (specifiers_of (map view_specifier specs)) scope.old)) cursor.old) result cursor.new }
     ensures behind { IfOk result (λ x. scope.new ≡ behind_item (view_item x) scope.old) }
 {
@@ -300,18 +296,15 @@ fn no_names(
     cursor: &mut Cursor<'_>,
     storage: Storage,
     specs: Specs,
-) -> Result<Item, Refusal>
+) -> Result<Boxed<Item>, Refusal>
     ensures { Gives view_item (perform (spec.no_names storage (specifiers_of (map view_specifier specs))) cursor.old) result cursor.new }
 {
     if !has_tag(specs.as_slice()) {
         return Err(refused(cursor));
     }
     cursor.take();
-    Ok(Item::Decl(Decl {
-        storage,
-        specs,
-        names: Items::new(alloc),
-    }))
+    let names = Items::new(alloc);
+    Ok(item_of(alloc, storage, specs, names)?)
 }
 
 /// The names of a typedef, in the scope behind its specifiers. Each is a type from the end of its declarator on.
@@ -320,17 +313,13 @@ fn type_names(
     scope: &mut Scope,
     cursor: &mut Cursor<'_>,
     specs: Specs,
-) -> Result<Item, Refusal>
+) -> Result<Boxed<Item>, Refusal>
     ensures reads { Gives view_item (perform (spec.type_names (specifiers_of (map view_specifier specs)) scope.old) cursor.old) result cursor.new }
     ensures behind { IfOk result (λ x. (s : shape.Scope) → scope.old ≡ behind_specifiers (specifiers_of (map view_specifier specs)) s → scope.new ≡ behind_item (view_item x) s) }
 {
     let first = outer(alloc, scope, cursor, Storage::Typedef)?;
     let names = names(alloc, scope, cursor, Storage::Typedef, first)?;
-    Ok(Item::Decl(Decl {
-        storage: Storage::Typedef,
-        specs,
-        names,
-    }))
+    Ok(item_of(alloc, Storage::Typedef, specs, names)?)
 }
 
 /// The same where the first name is still to be counted.
@@ -339,7 +328,7 @@ fn counted_type_names(
     scope: &mut Scope,
     cursor: &mut Cursor<'_>,
     specs: Specs,
-) -> Result<Item, Refusal>
+) -> Result<Boxed<Item>, Refusal>
     ensures reads { Gives view_item (perform (spec.counted_type_names (specifiers_of (map view_specifier specs)) scope.old) cursor.old) result cursor.new }
     ensures behind { IfOk result (λ x. (s : shape.Scope) → scope.old ≡ behind_specifiers (specifiers_of (map view_specifier specs)) s → scope.new ≡ behind_item (view_item x) s) }
 {
@@ -353,7 +342,7 @@ fn type_item(
     scope: &mut Scope,
     cursor: &mut Cursor<'_>,
     specs: Specs,
-) -> Result<Item, Refusal>
+) -> Result<Boxed<Item>, Refusal>
     ensures reads { Gives view_item (perform (spec.behind_specifiers st.Typedef (specifiers_of (map view_specifier specs)) scope.old) cursor.old) result cursor.new }
     ensures behind { IfOk result (λ x. scope.new ≡ behind_item (view_item x) scope.old) }
 {
@@ -381,7 +370,7 @@ fn unnamed(
     cursor: &mut Cursor<'_>,
     storage: Storage,
     specs: Specs,
-) -> Result<Item, Refusal>
+) -> Result<Boxed<Item>, Refusal>
     ensures reads { Gives view_item (perform (spec.no_names storage (specifiers_of (map view_specifier specs))) cursor.old) result cursor.new }
     ensures behind { IfOk result (λ x. scope.new ≡ behind_item (view_item x) scope.old) }
 {
@@ -396,7 +385,7 @@ fn other_item(
     cursor: &mut Cursor<'_>,
     storage: Storage,
     specs: Specs,
-) -> Result<Item, Refusal>
+) -> Result<Boxed<Item>, Refusal>
     requires { IsNoTypedef storage }
     ensures reads { Gives view_item (perform (spec.behind_specifiers storage (specifiers_of (map view_specifier specs)) scope.old) cursor.old) result cursor.new }
     ensures behind { IfOk result (λ x. scope.new ≡ behind_item (view_item x) scope.old) }
@@ -421,7 +410,7 @@ pub(crate) fn behind_specifiers(
     cursor: &mut Cursor<'_>,
     storage: Storage,
     specs: Specs,
-) -> Result<Item, Refusal>
+) -> Result<Boxed<Item>, Refusal>
     ensures reads { Gives view_item (perform (spec.behind_specifiers storage (specifiers_of (map view_specifier specs)) scope.old) cursor.old) result cursor.new }
     ensures behind { IfOk result (λ x. scope.new ≡ behind_item (view_item x) scope.old) }
 {

@@ -1,6 +1,6 @@
 //! Names that are declared outside functions.
 
-ghost use Rattle.std.specs.Prelude.{◌≡◌, ◌∷◌, [], true, map, IfOk};
+ghost use Rattle.std.specs.Prelude.{◌≡◌, ◌∷◌, ◌++◌, [], true, map, IfOk, OnOk};
 ghost use Rattle.c_tree.specs.Shape.{behind_named, behind_names};
 ghost use Rattle.c_tree.specs.View.{view_declarator};
 ghost use Rattle.c_tree.specs.StatementView.{view_named};
@@ -14,13 +14,13 @@ ghost use Rattle.item_parser.specs.ItemParts as spec;
 
 use c_grammar::{Cursor, Kind, same_kind};
 use c_tree::{Declarator, Named, Storage};
-use declaration_parser::{has_initializer, named_init};
 use expression_parser::grammar::Types;
 use expression_parser::refusal::Refusal;
 use expression_parser::steps::{expect, spend};
 use program_scope::{Names, Scope};
-use sqlite_items::Items;
-use std::alloc::Global;
+use sqlite_items::{Boxed, Items};
+use statement_parser::{has_initializer, named_init};
+use std::alloc::{AllocError, Global};
 use type_parser::nest::{declarator, type_declarator};
 
 /// Where no type is declared: the names that are types.
@@ -50,7 +50,7 @@ fn outer_declarator(
     types: &Types<'_>,
     cursor: &mut Cursor<'_>,
     storage: Storage,
-) -> Result<Declarator, Refusal>
+) -> Result<Boxed<Declarator>, Refusal>
     ensures { Gives view_declarator (read (rules.a_declarator types.now 3 true (rules.is_typedef storage)) cursor.old) result cursor.new }
 {
     match storage {
@@ -79,11 +79,11 @@ fn behind_declarator(
     types: &Types<'_>,
     cursor: &mut Cursor<'_>,
     storage: Storage,
-    found: Declarator,
-) -> Result<Named, Refusal>
+    found: Boxed<Declarator>,
+) -> Result<Boxed<Named>, Refusal>
     ensures { Gives view_named (perform (spec.behind_declarator types.now storage (view_declarator found)) cursor.old) result cursor.new }
 {
-    let may_begin = may_begin(storage, &found);
+    let may_begin = may_begin(storage, found.get());
     named_init(alloc, types, cursor, 3, may_begin, found)
 }
 
@@ -94,7 +94,7 @@ pub(crate) fn outer(
     scope: &Scope,
     cursor: &mut Cursor<'_>,
     storage: Storage,
-) -> Result<Named, Refusal>
+) -> Result<Boxed<Named>, Refusal>
     ensures { Gives view_named (read (rules.an_outer storage scope.now) cursor.old) result cursor.new }
 {
     let none = Names::new(alloc);
@@ -109,12 +109,26 @@ fn another(
     scope: &Scope,
     cursor: &mut Cursor<'_>,
     storage: Storage,
-) -> Result<Named, Refusal>
+) -> Result<Boxed<Named>, Refusal>
     ensures { Gives view_named (perform (spec.another storage scope.now) cursor.old) result cursor.new }
 {
     spend(cursor, 1, 3)?;
     cursor.take();
     outer(alloc, scope, cursor, storage)
+}
+
+/// Puts a name behind those that were found, and into the scope.
+fn add_name(
+    scope: &mut Scope,
+    found: &mut Items<Named>,
+    storage: Storage,
+    next: Boxed<Named>,
+) -> Result<(), AllocError>
+    ensures scope { OnOk result (scope.new ≡ behind_named storage (view_named next) scope.old) }
+    ensures found { OnOk result (found.new ≡ found.old ++ next ∷ []) }
+{
+    scope.behind_named(storage, next.get())?;
+    found.push(next.into_inner())
 }
 
 /// The declared names behind the first, with the semicolon. The scope is then the one behind all of them.
@@ -123,18 +137,16 @@ pub(crate) fn names(
     scope: &mut Scope,
     cursor: &mut Cursor<'_>,
     storage: Storage,
-    first: Named,
+    first: Boxed<Named>,
 ) -> Result<Items<Named>, Refusal>
     ensures reads { Gives (λ ns. map view_named ns) (mapped (λ ns. view_named first ∷ ns) (read (rules.more_outer storage (behind_named storage (view_named first) scope.old)) cursor.old)) result cursor.new }
     ensures behind { IfOk result (λ ns. scope.new ≡ behind_names storage (map view_named ns) scope.old) }
 {
     let mut found = Items::new(alloc);
-    scope.behind_named(storage, &first)?;
-    found.push(first)?;
+    add_name(scope, &mut found, storage, first)?;
     while same_kind(cursor.kind(), Kind::Comma) {
         let next = another(alloc, scope, cursor, storage)?;
-        scope.behind_named(storage, &next)?;
-        found.push(next)?;
+        add_name(scope, &mut found, storage, next)?;
     }
     expect(cursor, Kind::Semicolon)?;
     Ok(found)

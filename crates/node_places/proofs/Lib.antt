@@ -1,3 +1,4 @@
 pub mod Goes
 pub mod Walks
 pub mod Laws
+pub mod Examples

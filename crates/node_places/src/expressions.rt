@@ -1,4 +1,4 @@
-ghost use Rattle.std.specs.Prelude.{◌≡◌, false, map, option_map, OnOk};
+ghost use Rattle.std.specs.Prelude.{◌≡◌, false, length, map, option_map, OnOk};
 ghost use Rattle.c_tree.specs.View.{view_expression, view_type, view_specifier, view_declarator, view_bare, view_member, view_enumerator, view_parameter, view_parameters, expressions_of, sizes_of, specifiers_of, members_of, declarators_of, enumerators_of, parameters_of};
 ghost use Rattle.node_places.specs.Past.{past_stars, is_void, past_expression, past_expressions, past_sizes, past_type, past_specifiers, past_specifier, past_members, past_declarators, past_enumerators, past_declarator, past_parameters, past_bare};
 ghost use Rattle.node_places.specs.Walked.{walked, skip, skip_if};
@@ -18,6 +18,28 @@ pub(crate) fn walk_stars(all: &[Quals], walk: &mut Walk) -> Result<(), AllocErro
         walk.skip(quals.len())?;
     }
     Ok(())
+}
+
+/// Passes stars and so many tokens behind them.
+pub(crate) fn stars_and_skip(all: &[Quals], count: usize, walk: &mut Walk) -> Result<(), AllocError>
+    ensures { OnOk result (walked walk.new ≡ skip count (past_stars (walked walk.old) all.now)) }
+{
+    walk_stars(all, walk)?;
+    walk.skip(count)
+}
+
+/// Passes stars, the bracket and the star of a pointer to a function with its qualifiers, and so many tokens behind them.
+fn walk_pointer(
+    stars: &[Quals],
+    quals: &Quals,
+    behind: usize,
+    walk: &mut Walk,
+) -> Result<(), AllocError>
+    ensures { OnOk result (walked walk.new ≡ skip behind (skip (length quals.now) (skip 2 (past_stars (walked walk.old) stars.now)))) }
+{
+    stars_and_skip(stars, 2, walk)?;
+    walk.skip(quals.len())?;
+    walk.skip(behind)
 }
 
 #[cycle(walk)]
@@ -202,25 +224,17 @@ pub(crate) fn walk_declarator(d: &Declarator, walk: &mut Walk) -> Result<(), All
     ensures { OnOk result (walked walk.new ≡ past_declarator (walked walk.old) (view_declarator d.now)) }
 {
     match d {
-        Declarator::Plain(stars, _) => {
-            walk_stars(stars.as_slice(), walk)?;
-            walk.skip(1)
-        }
+        Declarator::Plain(stars, _) => stars_and_skip(stars.as_slice(), 1, walk),
         Declarator::Array(stars, _, sizes) => {
-            walk_stars(stars.as_slice(), walk)?;
-            walk.skip(1)?;
+            stars_and_skip(stars.as_slice(), 1, walk)?;
             walk_sizes(sizes.as_slice(), walk)
         }
         Declarator::Function(stars, _, params) => {
-            walk_stars(stars.as_slice(), walk)?;
-            walk.skip(2)?;
+            stars_and_skip(stars.as_slice(), 2, walk)?;
             walk_parameters(params, walk)
         }
         Declarator::Pointer(stars, quals, _, sizes, params) => {
-            walk_stars(stars.as_slice(), walk)?;
-            walk.skip(2)?;
-            walk.skip(quals.len())?;
-            walk.skip(1)?;
+            walk_pointer(stars.as_slice(), quals, 1, walk)?;
             walk_sizes(sizes.as_slice(), walk)?;
             walk.skip(2)?;
             walk_parameters(params, walk)
@@ -275,10 +289,7 @@ fn walk_bare(b: &Bare, walk: &mut Walk) -> Result<(), AllocError>
     match b {
         Bare::Plain(stars) => walk_stars(stars.as_slice(), walk),
         Bare::Pointer(stars, quals, params) => {
-            walk_stars(stars.as_slice(), walk)?;
-            walk.skip(2)?;
-            walk.skip(quals.len())?;
-            walk.skip(2)?;
+            walk_pointer(stars.as_slice(), quals, 2, walk)?;
             walk_parameters(params, walk)
         }
     }

@@ -8,7 +8,8 @@ ghost use Rattle.node_places.specs.Starts.{starts, closes};
 ghost use Rattle.node_places.specs.Walked.{walked, skip};
 
 use crate::expressions::{
-    walk_and_skip, walk_declarator, walk_expression, walk_parameters, walk_specifiers, walk_stars,
+    stars_and_skip, walk_and_skip, walk_declarator, walk_expression, walk_parameters,
+    walk_specifiers,
 };
 use crate::walk::Walk;
 use c_tree::{Decl, Expr, ForStart, Function, Init, Item, Named, Part, Stmt, Storage};
@@ -213,8 +214,7 @@ fn walk_function(f: &Function, walk: &mut Walk) -> Result<(), AllocError>
     walk.begin()?;
     walk_storage(f.storage, walk)?;
     walk_specifiers(f.specs.as_slice(), walk)?;
-    walk_stars(f.stars.as_slice(), walk)?;
-    walk.skip(2)?;
+    stars_and_skip(f.stars.as_slice(), 2, walk)?;
     walk_parameters(&f.params, walk)?;
     walk_statement(&f.body, walk)?;
     walk.close()

@@ -10,8 +10,6 @@
 
 mod expressions;
 mod items;
-#[cfg(test)]
-mod tests;
 mod walk;
 
 pub use items::{NodeTokens, find};

@@ -1,3 +1,6 @@
-pub mod Place
+pub mod Context
 pub mod Nests
 pub mod Parts
+pub mod InitNests
+pub mod PartList
+pub mod DeclarationParts

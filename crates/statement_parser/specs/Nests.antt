@@ -14,20 +14,20 @@ use Rattle.statement_parser.specs.declared.reader.Nested.{Nested}
 use Rattle.statement_parser.specs.declared.reader.Nested.TheVariants as n
 use Rattle.statement_parser.specs.declared.reader.Found.{Found}
 use Rattle.statement_parser.specs.declared.reader.Found.TheVariants as f
-use Rattle.statement_parser.specs.Place.{view_place}
+use Rattle.statement_parser.specs.Context.{view_context}
 
 -- what was found is what nests
 abbrev pub Finds : Types → ℕ → Nested → Input → Result Found Refusal → Input → Type 0
-Finds types d (n.Statement place owed) i (Ok (f.Statement x)) j = read (a_statement types d (view_place place) owed) i ≡ got (view_statement x) j.rest j.meter
-Finds types d (n.Block place) i (Ok (f.Block xs)) j = read (all_statements types d (view_place place)) i ≡ got (statements_of (map view_statement xs)) j.rest j.meter
-Finds types d (n.Statement place owed) i (Err e) j = Fails (read (a_statement types d (view_place place) owed) i) e
-Finds types d (n.Block place) i (Err e) j = Fails (read (all_statements types d (view_place place)) i) e
+Finds types d (n.Statement context owed) i (Ok (f.Statement x)) j = read (a_statement types d (view_context context) owed) i ≡ got (view_statement x) j.rest j.meter
+Finds types d (n.Block context) i (Ok (f.Block xs)) j = read (all_statements types d (view_context context)) i ≡ got (statements_of (map view_statement xs)) j.rest j.meter
+Finds types d (n.Statement context owed) i (Err e) j = Fails (read (a_statement types d (view_context context) owed) i) e
+Finds types d (n.Block context) i (Err e) j = Fails (read (all_statements types d (view_context context)) i) e
 Finds types d _ i (Ok _) j = ⊥
 
 -- its depth and what it owes are counted in 32 bits
 abbrev pub IsSmall : ℕ → Nested → Type 0
-IsSmall d (n.Statement place owed) = (d ≤ 1000) × (owed ≤ 999)
-IsSmall d (n.Block place) = d ≤ 1000
+IsSmall d (n.Statement context owed) = (d ≤ 1000) × (owed ≤ 999)
+IsSmall d (n.Block context) = d ≤ 1000
 
 pub record Nests (budget : ℕ) (pre : Global → Bor Types → MutBor Input → ℕ → ℕ → Nested → Type 0)
     (post : Global → Bor Types → MutBor Input → ℕ → ℕ → Nested → Result Found Refusal → MutBor Input → Type 0) : Type 0 where

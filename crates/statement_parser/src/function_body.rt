@@ -7,8 +7,8 @@ ghost use Rattle.c_grammar.specs.Reading.{read};
 ghost use Rattle.c_grammar.specs.Rules.{all_statements};
 ghost use Rattle.expression_parser.specs.Gives.{Gives};
 
+use crate::context::Context;
 use crate::nest;
-use crate::place::Place;
 use c_grammar::Cursor;
 use c_tree::Stmt;
 use expression_parser::grammar::Types;
@@ -24,6 +24,6 @@ pub fn body(
 ) -> Result<Items<Stmt>, Refusal>
     ensures { Gives (λ ss. statements_of (map view_statement ss)) (read (all_statements types.now 3 (of_block outside)) cursor.old) result cursor.new }
 {
-    let place = Place::outside().of_block();
-    nest::block(alloc, types, cursor, 3, place)
+    let context = Context::outside().of_block();
+    nest::block(alloc, types, cursor, 3, context)
 }

@@ -8,9 +8,9 @@ ghost use Rattle.c_grammar.specs.Rules.{all_statements};
 ghost use Rattle.expression_parser.specs.Gives.{Gives};
 ghost use Rattle.statement_parser.specs.Nests.{Nests};
 ghost use Rattle.statement_parser.specs.Parts.{one_statement};
-ghost use Rattle.statement_parser.specs.Place.{view_place};
+ghost use Rattle.statement_parser.specs.Context.{view_context};
 
-use crate::place::Place;
+use crate::context::Context;
 use crate::reader::{Found, Nested, Statements};
 use c_grammar::{Cursor, Kind, same_kind};
 use c_tree::Stmt;
@@ -24,13 +24,13 @@ impl<
     F: Fn(Global, &Types<'_>, &mut Cursor<'_>, usize, u32, Nested) -> Result<Found, Refusal>,
 > Statements<'_, F> {
     /// One statement of a block. It takes a token at least, so that the second refusal never comes.
-    fn one(&self, cursor: &mut Cursor<'_>, d: u32, place: Place) -> Result<Boxed<Stmt>, Refusal>
+    fn one(&self, cursor: &mut Cursor<'_>, d: u32, context: Context) -> Result<Boxed<Stmt>, Refusal>
         requires nests { Nests self.now.budget (F.pre self.now.read) (F.post self.now.read) }
         requires small { d ≤ 1000 }
-        ensures { Gives view_statement (perform (one_statement self.now.types.now d (view_place place)) cursor.old) result cursor.new }
+        ensures { Gives view_statement (perform (one_statement self.now.types.now d (view_context context)) cursor.old) result cursor.new }
     {
         let before = cursor.left();
-        let found = self.statement(cursor, d, place, 1)?;
+        let found = self.statement(cursor, d, context, 1)?;
         if cursor.left() >= before {
             return Err(refused(cursor));
         }
@@ -38,14 +38,19 @@ impl<
     }
 
     /// The statements of a block, with the closing brace.
-    pub fn all(&self, cursor: &mut Cursor<'_>, d: u32, place: Place) -> Result<Items<Stmt>, Refusal>
+    pub fn all(
+        &self,
+        cursor: &mut Cursor<'_>,
+        d: u32,
+        context: Context,
+    ) -> Result<Items<Stmt>, Refusal>
         requires nests { Nests self.now.budget (F.pre self.now.read) (F.post self.now.read) }
         requires small { d ≤ 1000 }
-        ensures { Gives (λ ss. statements_of (map view_statement ss)) (read (all_statements self.now.types.now d (view_place place)) cursor.old) result cursor.new }
+        ensures { Gives (λ ss. statements_of (map view_statement ss)) (read (all_statements self.now.types.now d (view_context context)) cursor.old) result cursor.new }
     {
         let mut found = Items::new(self.alloc);
         while !same_kind(kind(self.types, cursor), Kind::CloseBrace) {
-            let next = self.one(cursor, d, place)?;
+            let next = self.one(cursor, d, context)?;
             found.push(next.into_inner())?;
         }
         cursor.take();

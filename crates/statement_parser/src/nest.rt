@@ -6,15 +6,15 @@ ghost use Rattle.c_grammar.specs.Reading.{read};
 ghost use Rattle.c_grammar.specs.Rules.{all_statements};
 ghost use Rattle.expression_parser.specs.Gives.{Gives};
 ghost use Rattle.statement_parser.specs.Nests.{Finds, IsSmall};
-ghost use Rattle.statement_parser.specs.Place.{view_place};
+ghost use Rattle.statement_parser.specs.Context.{view_context};
 
-use crate::place::Place;
+use crate::context::Context;
 use crate::reader::{Found, Nested, Statements};
 use c_grammar::Cursor;
 use c_tree::Stmt;
 use expression_parser::grammar::Types;
 use expression_parser::refusal::Refusal;
-use sqlite_items::{Boxed, Items};
+use sqlite_items::Items;
 use std::alloc::Global;
 
 /// How often statements may nest. The limits of a program stop it long before.
@@ -42,23 +42,23 @@ fn nested(
         read: nested,
     };
     Ok(match what {
-        Nested::Statement { place, owed } => {
-            Found::Statement(Boxed::new(alloc, reader.any(cursor, d, place, owed)?)?)
+        Nested::Statement { context, owed } => {
+            Found::Statement(reader.any(cursor, d, context, owed)?)
         }
-        Nested::Block { place } => Found::Block(reader.all(cursor, d, place)?),
+        Nested::Block { context } => Found::Block(reader.all(cursor, d, context)?),
     })
 }
 
-/// The statements of a block at this place, with the closing brace.
+/// The statements of a block at this context, with the closing brace.
 pub fn block(
     alloc: Global,
     types: &Types<'_>,
     cursor: &mut Cursor<'_>,
     d: u32,
-    place: Place,
+    context: Context,
 ) -> Result<Items<Stmt>, Refusal>
     requires { d ≤ 1000 }
-    ensures { Gives (λ ss. statements_of (map view_statement ss)) (read (all_statements types.now d (view_place place)) cursor.old) result cursor.new }
+    ensures { Gives (λ ss. statements_of (map view_statement ss)) (read (all_statements types.now d (view_context context)) cursor.old) result cursor.new }
 {
     Statements {
         alloc,
@@ -66,5 +66,5 @@ pub fn block(
         budget: MAX_NESTING,
         read: nested,
     }
-    .all(cursor, d, place)
+    .all(cursor, d, context)
 }

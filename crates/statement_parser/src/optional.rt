@@ -9,13 +9,14 @@ ghost use Rattle.c_grammar.specs.Rules as rules;
 ghost use Rattle.c_grammar.specs.Rules.{an_optional, a_start};
 ghost use Rattle.expression_parser.specs.Gives.{Gives};
 
+use crate::local::declaration;
 use c_grammar::{Cursor, Kind, same_kind};
 use c_tree::{Expr, ForStart};
-use declaration_parser::declaration;
 use expression_parser::grammar::Types;
 use expression_parser::infix::begins_type;
 use expression_parser::refusal::Refusal;
 use expression_parser::steps::{expect, kind, spend};
+use sqlite_items::Boxed;
 use std::alloc::Global;
 use type_parser::nest::expression;
 
@@ -37,7 +38,7 @@ pub fn optional(
     cursor: &mut Cursor<'_>,
     d: u32,
     end: Kind,
-) -> Result<Option<Expr>, Refusal>
+) -> Result<Option<Boxed<Expr>>, Refusal>
     requires small { d ≤ 1001 }
     requires real { IsReal end }
     ensures { Gives (option_map view_expression) (read (an_optional types.now d end) cursor.old) result cursor.new }
@@ -51,6 +52,16 @@ pub fn optional(
     Ok(Some(found))
 }
 
+/// The expression outside its box.
+pub fn unboxed(e: Option<Boxed<Expr>>) -> Option<Expr>
+    ensures { result ≡ e }
+{
+    match e {
+        Some(found) => Some(found.into_inner()),
+        None => None,
+    }
+}
+
 /// What a for begins with, with its semicolon.
 #[tactic(auto, using(expression_parser::proofs::Opens::start_performs))]
 pub fn start(
@@ -58,14 +69,16 @@ pub fn start(
     types: &Types<'_>,
     cursor: &mut Cursor<'_>,
     d: u32,
-) -> Result<ForStart, Refusal>
+) -> Result<Boxed<ForStart>, Refusal>
     requires { d ≤ 1001 }
     ensures { Gives view_start (read (a_start types.now d) cursor.old) result cursor.new }
 {
     if begins_declaration(kind(types, cursor)) {
         spend(cursor, 1, d + 1)?;
-        Ok(ForStart::Decl(declaration(alloc, types, cursor, d + 1)?))
+        let found = declaration(alloc, types, cursor, d + 1)?;
+        Ok(Boxed::new(alloc, ForStart::Decl(found))?)
     } else {
-        Ok(ForStart::Expr(optional(alloc, types, cursor, d, Kind::Semicolon)?))
+        let found = optional(alloc, types, cursor, d, Kind::Semicolon)?;
+        Ok(Boxed::new(alloc, ForStart::Expr(unboxed(found)))?)
     }
 }

@@ -1,30 +1,28 @@
 //! The rules for statements take the reader of the statements in them as a parameter, so that each is proved by itself.
 
 ghost use Rattle.std.specs.Prelude.{◌≡◌, ◌≤◌, map};
-ghost use Rattle.c_tree.specs.View.{view_expression};
 ghost use Rattle.c_tree.specs.StatementView.{view_statement, statements_of};
 ghost use Rattle.c_grammar.specs.Reading.{read};
-ghost use Rattle.c_grammar.specs.Rules.{an_expression, a_statement, all_statements};
+ghost use Rattle.c_grammar.specs.Rules.{a_statement, all_statements};
 ghost use Rattle.expression_parser.specs.Gives.{Gives};
 ghost use Rattle.statement_parser.specs.Nests.{Nests};
-ghost use Rattle.statement_parser.specs.Place.{view_place};
+ghost use Rattle.statement_parser.specs.Context.{view_context};
 
-use crate::place::Place;
+use crate::context::Context;
 use c_grammar::Cursor;
-use c_tree::{Expr, Stmt};
+use c_tree::Stmt;
 use expression_parser::grammar::Types;
 use expression_parser::refusal::Refusal;
 use sqlite_items::{Boxed, Items};
 use std::alloc::Global;
-use type_parser::nest::expression;
 
 /// What may hold others of its kind.
 #[derive(Clone, Copy)]
 pub enum Nested {
     /// A statement, whose first token makes so many nodes necessary besides its own.
-    Statement { place: Place, owed: u32 },
+    Statement { context: Context, owed: u32 },
     /// The statements of a block, with the closing brace.
-    Block { place: Place },
+    Block { context: Context },
 }
 
 #[derive(Drop)]
@@ -51,13 +49,13 @@ impl<
         &self,
         cursor: &mut Cursor<'_>,
         d: u32,
-        place: Place,
+        context: Context,
         owed: u32,
     ) -> Result<Boxed<Stmt>, Refusal>
         requires nests { Nests self.now.budget (F.pre self.now.read) (F.post self.now.read) }
         requires small { d ≤ 1000 }
         requires few { owed ≤ 999 }
-        ensures { Gives view_statement (read (a_statement self.now.types.now d (view_place place) owed) cursor.old) result cursor.new }
+        ensures { Gives view_statement (read (a_statement self.now.types.now d (view_context context) owed) cursor.old) result cursor.new }
     {
         match (self.read)(
             self.alloc,
@@ -65,9 +63,10 @@ impl<
             cursor,
             self.budget,
             d,
-            Nested::Statement { place, owed },
+            Nested::Statement { context, owed },
         )? {
             Found::Statement(found) => Ok(found),
+            // What was asked for is found, so this never comes.
             _ => Err(Refusal::NoMemory),
         }
     }
@@ -77,11 +76,11 @@ impl<
         &self,
         cursor: &mut Cursor<'_>,
         d: u32,
-        place: Place,
+        context: Context,
     ) -> Result<Items<Stmt>, Refusal>
         requires nests { Nests self.now.budget (F.pre self.now.read) (F.post self.now.read) }
         requires small { d ≤ 1000 }
-        ensures { Gives (λ ss. statements_of (map view_statement ss)) (read (all_statements self.now.types.now d (view_place place)) cursor.old) result cursor.new }
+        ensures { Gives (λ ss. statements_of (map view_statement ss)) (read (all_statements self.now.types.now d (view_context context)) cursor.old) result cursor.new }
     {
         match (self.read)(
             self.alloc,
@@ -89,25 +88,11 @@ impl<
             cursor,
             self.budget,
             d,
-            Nested::Block { place },
+            Nested::Block { context },
         )? {
             Found::Block(found) => Ok(found),
+            // What was asked for is found, so this never comes.
             _ => Err(Refusal::NoMemory),
         }
-    }
-
-    /// An expression of at least this level.
-    pub fn expression(
-        &self,
-        cursor: &mut Cursor<'_>,
-        d: u32,
-        least: u8,
-        owed: u32,
-    ) -> Result<Expr, Refusal>
-        requires small { d ≤ 1001 }
-        requires few { owed ≤ 1000 }
-        ensures { Gives view_expression (read (an_expression self.now.types.now d least owed) cursor.old) result cursor.new }
-    {
-        expression(self.alloc, self.types, cursor, d, least, owed)
     }
 }

@@ -9,18 +9,19 @@ ghost use Rattle.c_grammar.specs.Rules as rules;
 ghost use Rattle.c_grammar.specs.Rules.{statement_by, labelled_by};
 ghost use Rattle.expression_parser.specs.Gives.{Gives};
 ghost use Rattle.statement_parser.specs.Parts as parts;
-ghost use Rattle.statement_parser.specs.Place.{view_place};
+ghost use Rattle.statement_parser.specs.Context.{view_context};
 
-use crate::optional::optional;
-use crate::place::Place;
+use crate::context::Context;
+use crate::local::declaration;
+use crate::optional::{optional, unboxed};
 use base_core::Lexeme;
 use c_grammar::{Cursor, Kind};
 use c_tree::{Expr, Stmt};
-use declaration_parser::declaration;
 use expression_parser::grammar::Types;
 use expression_parser::infix::infix_behind;
 use expression_parser::refusal::Refusal;
 use expression_parser::steps::{expect, name, refused, spend, word};
+use sqlite_items::Boxed;
 use std::alloc::Global;
 use type_parser::nest::{expression, rest};
 
@@ -32,14 +33,14 @@ pub fn expressed(
     cursor: &mut Cursor<'_>,
     d: u32,
     owed: u32,
-) -> Result<Stmt, Refusal>
+) -> Result<Boxed<Stmt>, Refusal>
     requires small { d ≤ 1000 }
     requires few { owed ≤ 999 }
     ensures { Gives view_statement (perform (rules.expressed types.now d owed) cursor.old) result cursor.new }
 {
     let found = expression(alloc, types, cursor, d + 1, 1, owed + 1)?;
     expect(cursor, Kind::Semicolon)?;
-    Ok(Stmt::Expr(Some(found)))
+    Ok(Boxed::new(alloc, Stmt::Expr(Some(found.into_inner())))?)
 }
 
 /// An expression and its semicolon, behind the name that it begins with.
@@ -50,16 +51,17 @@ fn named_expression(
     cursor: &mut Cursor<'_>,
     d: u32,
     name: Lexeme,
-) -> Result<Stmt, Refusal>
+) -> Result<Boxed<Stmt>, Refusal>
     requires small { d ≤ 1000 }
     ensures { Gives view_statement (perform (parts.named_expression types.now d name) cursor.old) result cursor.new }
 {
     spend(cursor, 1, d + 2)?;
+    let first = Boxed::new(alloc, Expr::Name(name))?;
     let outer = cursor.enter(d + 2);
-    let found = rest(alloc, types, cursor, d + 1, 1, Expr::Name(name))?;
+    let found = rest(alloc, types, cursor, d + 1, 1, first)?;
     cursor.leave(outer);
     expect(cursor, Kind::Semicolon)?;
-    Ok(Stmt::Expr(Some(found)))
+    Ok(Boxed::new(alloc, Stmt::Expr(Some(found.into_inner())))?)
 }
 
 /// Whether a statement that begins with a name as an expression goes on with a token of this kind.
@@ -80,14 +82,14 @@ fn labelled(
     cursor: &mut Cursor<'_>,
     d: u32,
     name: Lexeme,
-) -> Result<Stmt, Refusal>
+) -> Result<Boxed<Stmt>, Refusal>
     requires small { d ≤ 1000 }
     ensures { Gives view_statement (perform (look [] (labelled_by types.now d name)) cursor.old) result cursor.new }
 {
     match cursor.kind() {
         Kind::Colon => {
             cursor.take();
-            Ok(Stmt::Label(name))
+            Ok(Boxed::new(alloc, Stmt::Label(name))?)
         }
         other => {
             if follows_name(other) {
@@ -105,14 +107,14 @@ pub fn named(
     types: &Types<'_>,
     cursor: &mut Cursor<'_>,
     d: u32,
-    place: Place,
+    context: Context,
     owed: u32,
-) -> Result<Stmt, Refusal>
+) -> Result<Boxed<Stmt>, Refusal>
     requires small { d ≤ 1000 }
     requires few { owed ≤ 999 }
-    ensures { Gives view_statement (perform (parts.plain_by types.now d (view_place place) owed k.Name) cursor.old) result cursor.new }
+    ensures { Gives view_statement (perform (parts.plain_by types.now d (view_context context) owed k.Name) cursor.old) result cursor.new }
 {
-    if !place.in_block {
+    if !context.in_block {
         return expressed(alloc, types, cursor, d, owed);
     }
     spend(cursor, owed, d + 1)?;
@@ -127,34 +129,36 @@ pub fn declared(
     types: &Types<'_>,
     cursor: &mut Cursor<'_>,
     d: u32,
-    place: Place,
+    context: Context,
     owed: u32,
-) -> Result<Stmt, Refusal>
+) -> Result<Boxed<Stmt>, Refusal>
     requires small { d ≤ 1000 }
-    ensures { Gives view_statement (perform (parts.declared types.now d (view_place place) owed) cursor.old) result cursor.new }
+    ensures { Gives view_statement (perform (parts.declared types.now d (view_context context) owed) cursor.old) result cursor.new }
 {
-    if !place.in_block {
+    if !context.in_block {
         return Err(refused(cursor));
     }
     spend(cursor, owed, d + 1)?;
-    Ok(Stmt::Decl(declaration(alloc, types, cursor, d + 1)?))
+    let found = declaration(alloc, types, cursor, d + 1)?;
+    Ok(Boxed::new(alloc, Stmt::Decl(found))?)
 }
 
 /// A semicolon alone.
 #[tactic(auto, using(c_tree::proofs::StatementViewLemmas::view_Stmt_Expr))]
 pub fn empty(
+    alloc: Global,
     types: &Types<'_>,
     cursor: &mut Cursor<'_>,
     d: u32,
-    place: Place,
+    context: Context,
     owed: u32,
-) -> Result<Stmt, Refusal>
+) -> Result<Boxed<Stmt>, Refusal>
     requires small { d ≤ 1000 }
-    ensures { Gives view_statement (perform (statement_by types.now d (view_place place) owed k.Semicolon) cursor.old) result cursor.new }
+    ensures { Gives view_statement (perform (statement_by types.now d (view_context context) owed k.Semicolon) cursor.old) result cursor.new }
 {
     spend(cursor, owed, d + 1)?;
     cursor.take();
-    Ok(Stmt::Expr(None))
+    Ok(Boxed::new(alloc, Stmt::Expr(None))?)
 }
 
 /// A case of a switch.
@@ -164,84 +168,87 @@ pub fn case(
     types: &Types<'_>,
     cursor: &mut Cursor<'_>,
     d: u32,
-    place: Place,
+    context: Context,
     owed: u32,
-) -> Result<Stmt, Refusal>
+) -> Result<Boxed<Stmt>, Refusal>
     requires small { d ≤ 1000 }
     requires few { owed ≤ 999 }
-    ensures { Gives view_statement (perform (statement_by types.now d (view_place place) owed k.Case) cursor.old) result cursor.new }
+    ensures { Gives view_statement (perform (statement_by types.now d (view_context context) owed k.Case) cursor.old) result cursor.new }
 {
-    if !place.in_cases {
+    if !context.in_cases {
         return Err(refused(cursor));
     }
     spend(cursor, owed + 1, d + 2)?;
     cursor.take();
     let value = expression(alloc, types, cursor, d + 1, 3, 0)?;
     expect(cursor, Kind::Colon)?;
-    Ok(Stmt::Case(value))
+    Ok(Boxed::new(alloc, Stmt::Case(value.into_inner()))?)
 }
 
 /// The default of a switch.
 #[tactic(auto, using(c_tree::proofs::StatementViewLemmas::view_Stmt_Default))]
 pub fn default(
+    alloc: Global,
     types: &Types<'_>,
     cursor: &mut Cursor<'_>,
     d: u32,
-    place: Place,
+    context: Context,
     owed: u32,
-) -> Result<Stmt, Refusal>
+) -> Result<Boxed<Stmt>, Refusal>
     requires small { d ≤ 1000 }
-    ensures { Gives view_statement (perform (statement_by types.now d (view_place place) owed k.Default) cursor.old) result cursor.new }
+    ensures { Gives view_statement (perform (statement_by types.now d (view_context context) owed k.Default) cursor.old) result cursor.new }
 {
-    if !place.in_cases {
+    if !context.in_cases {
         return Err(refused(cursor));
     }
     spend(cursor, owed, d + 1)?;
     cursor.take();
     expect(cursor, Kind::Colon)?;
-    Ok(Stmt::Default)
+    Ok(Boxed::new(alloc, Stmt::Default)?)
 }
 
 /// A break, which stands in a loop or a switch.
 #[tactic(auto, using(c_tree::proofs::StatementViewLemmas::view_Stmt_Break))]
 pub fn break_out(
+    alloc: Global,
     types: &Types<'_>,
     cursor: &mut Cursor<'_>,
     d: u32,
-    place: Place,
+    context: Context,
     owed: u32,
-) -> Result<Stmt, Refusal>
+) -> Result<Boxed<Stmt>, Refusal>
     requires small { d ≤ 1000 }
-    ensures { Gives view_statement (perform (statement_by types.now d (view_place place) owed k.Break) cursor.old) result cursor.new }
+    ensures { Gives view_statement (perform (statement_by types.now d (view_context context) owed k.Break) cursor.old) result cursor.new }
 {
-    if !(place.in_loop || place.in_switch) {
+    if !(context.in_loop || context.in_switch) {
         return Err(refused(cursor));
     }
     spend(cursor, owed, d + 1)?;
     cursor.take();
     expect(cursor, Kind::Semicolon)?;
-    Ok(Stmt::Break)
+    Ok(Boxed::new(alloc, Stmt::Break)?)
 }
 
 /// A continue, which stands in a loop.
 #[tactic(auto, using(c_tree::proofs::StatementViewLemmas::view_Stmt_Continue))]
 pub fn continue_on(
+    alloc: Global,
     types: &Types<'_>,
     cursor: &mut Cursor<'_>,
     d: u32,
-    place: Place,
+    context: Context,
     owed: u32,
-) -> Result<Stmt, Refusal>
+) -> Result<Boxed<Stmt>, Refusal>
     requires small { d ≤ 1000 }
-    ensures { Gives view_statement (perform (statement_by types.now d (view_place place) owed k.Continue) cursor.old) result cursor.new }
+    ensures { Gives view_statement (perform (statement_by types.now d (view_context context) owed k.Continue) cursor.old) result cursor.new }
 {
-    if !place.in_loop {
+    if !context.in_loop {
         return Err(refused(cursor));
     }
     spend(cursor, owed, d + 1)?;
     cursor.take();
     expect(cursor, Kind::Semicolon)?;
-    Ok(Stmt::Continue)
+    Ok(Boxed::new(alloc, Stmt::Continue)?)
 }
 
 /// A return, with a value or without.
@@ -251,17 +258,17 @@ pub fn return_back(
     types: &Types<'_>,
     cursor: &mut Cursor<'_>,
     d: u32,
-    place: Place,
+    context: Context,
     owed: u32,
-) -> Result<Stmt, Refusal>
+) -> Result<Boxed<Stmt>, Refusal>
     requires small { d ≤ 1000 }
-    ensures { Gives view_statement (perform (statement_by types.now d (view_place place) owed k.Return) cursor.old) result cursor.new }
+    ensures { Gives view_statement (perform (statement_by types.now d (view_context context) owed k.Return) cursor.old) result cursor.new }
 {
-    let _ = place;
+    let _ = context;
     spend(cursor, owed, d + 1)?;
     cursor.take();
     let value = optional(alloc, types, cursor, d + 1, Kind::Semicolon)?;
-    Ok(Stmt::Return(value))
+    Ok(Boxed::new(alloc, Stmt::Return(unboxed(value)))?)
 }
 
 /// A goto.
@@ -271,16 +278,16 @@ pub fn go_to(
     types: &Types<'_>,
     cursor: &mut Cursor<'_>,
     d: u32,
-    place: Place,
+    context: Context,
     owed: u32,
-) -> Result<Stmt, Refusal>
+) -> Result<Boxed<Stmt>, Refusal>
     requires small { d ≤ 1000 }
-    ensures { Gives view_statement (perform (statement_by types.now d (view_place place) owed k.Goto) cursor.old) result cursor.new }
+    ensures { Gives view_statement (perform (statement_by types.now d (view_context context) owed k.Goto) cursor.old) result cursor.new }
 {
-    let _ = place;
+    let _ = context;
     spend(cursor, owed, d + 1)?;
     cursor.take();
     let label = name(alloc, types, cursor)?;
     expect(cursor, Kind::Semicolon)?;
-    Ok(Stmt::Goto(label))
+    Ok(Boxed::new(alloc, Stmt::Goto(label))?)
 }

@@ -8,10 +8,10 @@ ghost use Rattle.c_grammar.specs.Rules.{a_statement, statement_by};
 ghost use Rattle.expression_parser.specs.Gives.{Gives};
 ghost use Rattle.statement_parser.specs.Nests.{Nests};
 ghost use Rattle.statement_parser.specs.Parts.{plain_by, simple_by};
-ghost use Rattle.statement_parser.specs.Place.{view_place};
+ghost use Rattle.statement_parser.specs.Context.{view_context};
 
+use crate::context::Context;
 use crate::optional::begins_declaration;
-use crate::place::Place;
 use crate::reader::{Found, Nested, Statements};
 use crate::simple;
 use c_grammar::{Cursor, Kind};
@@ -19,6 +19,7 @@ use c_tree::Stmt;
 use expression_parser::grammar::Types;
 use expression_parser::refusal::Refusal;
 use expression_parser::steps::kind;
+use sqlite_items::Boxed;
 use std::alloc::Global;
 
 /// A statement that no keyword begins, at a token of this kind.
@@ -27,19 +28,19 @@ fn plain_statement(
     types: &Types<'_>,
     cursor: &mut Cursor<'_>,
     d: u32,
-    place: Place,
+    context: Context,
     owed: u32,
     kind: Kind,
-) -> Result<Stmt, Refusal>
+) -> Result<Boxed<Stmt>, Refusal>
     requires small { d ≤ 1000 }
     requires few { owed ≤ 999 }
-    ensures { Gives view_statement (perform (plain_by types.now d (view_place place) owed kind) cursor.old) result cursor.new }
+    ensures { Gives view_statement (perform (plain_by types.now d (view_context context) owed kind) cursor.old) result cursor.new }
 {
     match kind {
-        Kind::Name => simple::named(alloc, types, cursor, d, place, owed),
+        Kind::Name => simple::named(alloc, types, cursor, d, context, owed),
         other => {
             if begins_declaration(other) {
-                simple::declared(alloc, types, cursor, d, place, owed)
+                simple::declared(alloc, types, cursor, d, context, owed)
             } else {
                 simple::expressed(alloc, types, cursor, d, owed)
             }
@@ -53,23 +54,23 @@ fn simple_statement(
     types: &Types<'_>,
     cursor: &mut Cursor<'_>,
     d: u32,
-    place: Place,
+    context: Context,
     owed: u32,
     kind: Kind,
-) -> Result<Stmt, Refusal>
+) -> Result<Boxed<Stmt>, Refusal>
     requires small { d ≤ 1000 }
     requires few { owed ≤ 999 }
-    ensures { Gives view_statement (perform (simple_by types.now d (view_place place) owed kind) cursor.old) result cursor.new }
+    ensures { Gives view_statement (perform (simple_by types.now d (view_context context) owed kind) cursor.old) result cursor.new }
 {
     match kind {
-        Kind::Semicolon => simple::empty(types, cursor, d, place, owed),
-        Kind::Case => simple::case(alloc, types, cursor, d, place, owed),
-        Kind::Default => simple::default(types, cursor, d, place, owed),
-        Kind::Break => simple::break_out(types, cursor, d, place, owed),
-        Kind::Continue => simple::continue_on(types, cursor, d, place, owed),
-        Kind::Return => simple::return_back(alloc, types, cursor, d, place, owed),
-        Kind::Goto => simple::go_to(alloc, types, cursor, d, place, owed),
-        other => plain_statement(alloc, types, cursor, d, place, owed, other),
+        Kind::Semicolon => simple::empty(alloc, types, cursor, d, context, owed),
+        Kind::Case => simple::case(alloc, types, cursor, d, context, owed),
+        Kind::Default => simple::default(alloc, types, cursor, d, context, owed),
+        Kind::Break => simple::break_out(alloc, types, cursor, d, context, owed),
+        Kind::Continue => simple::continue_on(alloc, types, cursor, d, context, owed),
+        Kind::Return => simple::return_back(alloc, types, cursor, d, context, owed),
+        Kind::Goto => simple::go_to(alloc, types, cursor, d, context, owed),
+        other => plain_statement(alloc, types, cursor, d, context, owed, other),
     }
 }
 
@@ -81,23 +82,23 @@ impl<
         &self,
         cursor: &mut Cursor<'_>,
         d: u32,
-        place: Place,
+        context: Context,
         owed: u32,
         kind: Kind,
-    ) -> Result<Stmt, Refusal>
+    ) -> Result<Boxed<Stmt>, Refusal>
         requires nests { Nests self.now.budget (F.pre self.now.read) (F.post self.now.read) }
         requires small { d ≤ 1000 }
         requires few { owed ≤ 999 }
-        ensures { Gives view_statement (perform (statement_by self.now.types.now d (view_place place) owed kind) cursor.old) result cursor.new }
+        ensures { Gives view_statement (perform (statement_by self.now.types.now d (view_context context) owed kind) cursor.old) result cursor.new }
     {
         match kind {
-            Kind::OpenBrace => self.braced(cursor, d, place, owed),
-            Kind::If => self.if_statement(cursor, d, place, owed),
-            Kind::While => self.while_loop(cursor, d, place, owed),
-            Kind::Do => self.do_loop(cursor, d, place, owed),
-            Kind::For => self.for_loop(cursor, d, place, owed),
-            Kind::Switch => self.switch(cursor, d, place, owed),
-            other => simple_statement(self.alloc, self.types, cursor, d, place, owed, other),
+            Kind::OpenBrace => self.braced(cursor, d, context, owed),
+            Kind::If => self.if_statement(cursor, d, context, owed),
+            Kind::While => self.while_loop(cursor, d, context, owed),
+            Kind::Do => self.do_loop(cursor, d, context, owed),
+            Kind::For => self.for_loop(cursor, d, context, owed),
+            Kind::Switch => self.switch(cursor, d, context, owed),
+            other => simple_statement(self.alloc, self.types, cursor, d, context, owed, other),
         }
     }
 
@@ -107,15 +108,15 @@ impl<
         &self,
         cursor: &mut Cursor<'_>,
         d: u32,
-        place: Place,
+        context: Context,
         owed: u32,
-    ) -> Result<Stmt, Refusal>
+    ) -> Result<Boxed<Stmt>, Refusal>
         requires nests { Nests self.now.budget (F.pre self.now.read) (F.post self.now.read) }
         requires small { d ≤ 1000 }
         requires few { owed ≤ 999 }
-        ensures { Gives view_statement (read (a_statement self.now.types.now d (view_place place) owed) cursor.old) result cursor.new }
+        ensures { Gives view_statement (read (a_statement self.now.types.now d (view_context context) owed) cursor.old) result cursor.new }
     {
         let kind = kind(self.types, cursor);
-        self.begun(cursor, d, place, owed, kind)
+        self.begun(cursor, d, context, owed, kind)
     }
 }

@@ -9,11 +9,12 @@ use Rattle.item_parser.proofs.outer.names.Goals as goal
 
 pub loop-alloc-init : goal.loop-alloc-init
 loop-alloc-init c =
-    let one : map view_named c.push.new.self ≡ view_named c.args.first ∷ [] =
-    pushed view_named c.new-found.result c.push.new.self c.args.first c.in_ok-push.ensures.ok ∙ ap (λ z. map view_named z ++ view_named c.args.first ∷ []) c.new-found.ensures in
+    let found = c.add_name.new.found in
+    let one : map view_named found ≡ view_named c.args.first ∷ [] =
+    pushed view_named c.new-found.result found c.args.first c.in_ok-add_name.ensures.found ∙ ap (λ z. map view_named z ++ view_named c.args.first ∷ []) c.new-found.ensures in
     record {
-      reads = names_begin c.args.storage c.args.scope.now c.behind_named.new.self (view_named c.args.first) (map view_named c.push.new.self) c.args.cursor.now one c.in_ok-behind_named.ensures;
-      behind = behind_first c.args.storage c.args.scope.now c.behind_named.new.self (view_named c.args.first) (map view_named c.push.new.self) one c.in_ok-behind_named.ensures;
+      reads = names_begin c.args.storage c.args.scope.now c.add_name.new.scope (view_named c.args.first) (map view_named found) c.args.cursor.now one c.in_ok-add_name.ensures.scope;
+      behind = behind_first c.args.storage c.args.scope.now c.add_name.new.scope (view_named c.args.first) (map view_named found) one c.in_ok-add_name.ensures.scope;
     }
 
 pub returns-in_err-next-clause-reads : goal.returns-in_err-next-clause-reads
@@ -29,14 +30,15 @@ loop-alloc-smaller c =
 pub loop-alloc-preserved : goal.loop-alloc-preserved
 loop-alloc-preserved c =
     let is : same_kind (kind [] c.loop-alloc.cursor.rest) k.Comma ≡ true = cc in
-    let more : map view_named c.push-in-loop-alloc.new.self ≡ map view_named c.loop-alloc.found ++ view_named c.in_ok-next.next ∷ [] =
-    pushed view_named c.loop-alloc.found c.push-in-loop-alloc.new.self c.in_ok-next.next c.in_ok-push-2.ensures.ok in
+    let found = c.add_name-in-loop-alloc.new.found in
+    let scope = c.add_name-in-loop-alloc.new.scope in
+    let more : map view_named found ≡ map view_named c.loop-alloc.found ++ view_named c.in_ok-next.next ∷ [] =
+    pushed view_named c.loop-alloc.found found c.in_ok-next.next c.in_ok-add_name-2.ensures.found in
     record {
-      reads = loop_turn (map view_named c.push-in-loop-alloc.new.self) c.loop-alloc.invariant.reads
-          (names_turn c.args.storage c.loop-alloc.scope c.behind_named-in-loop-alloc.new.self c.loop-alloc.cursor c.another.new.cursor (view_named c.in_ok-next.next) c.in_ok-behind_named-2.ensures is c.in_ok-next.ensures)
-          more;
-      behind = behind_pushed c.args.storage (map view_named c.loop-alloc.found) (map view_named c.push-in-loop-alloc.new.self) (view_named c.in_ok-next.next) c.args.scope.now c.loop-alloc.scope c.behind_named-in-loop-alloc.new.self
-          more c.loop-alloc.invariant.behind c.in_ok-behind_named-2.ensures;
+      reads = loop_turn (map view_named found) c.loop-alloc.invariant.reads
+          (names_turn c.args.storage c.loop-alloc.scope scope c.loop-alloc.cursor c.another.new.cursor (view_named c.in_ok-next.next) c.in_ok-add_name-2.ensures.scope is c.in_ok-next.ensures) more;
+      behind = behind_pushed c.args.storage (map view_named c.loop-alloc.found) (map view_named found) (view_named c.in_ok-next.next) c.args.scope.now c.loop-alloc.scope scope more c.loop-alloc.invariant.behind
+          c.in_ok-add_name-2.ensures.scope;
     }
 
 pub returns-in_err-expect-clause-reads : goal.returns-in_err-expect-clause-reads

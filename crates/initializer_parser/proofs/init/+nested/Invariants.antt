@@ -1,4 +1,0 @@
-use Rattle.initializer_parser.proofs.init.+nested.Given as goal
-
-abbrev pub decreases-nested : goal.decreases-nested
-decreases-nested l = l.budget

@@ -1,2 +1,0 @@
-pub mod PartList
-pub mod Nests

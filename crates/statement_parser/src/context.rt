@@ -1,0 +1,76 @@
+//! Where a statement stands.
+
+ghost use Rattle.std.specs.Prelude.{◌≡◌};
+ghost use Rattle.c_tree.specs.Shape as shape;
+ghost use Rattle.statement_parser.specs.Context.{view_context};
+
+/// Where a statement stands: in a loop, in a switch, directly in a block, directly in the block of a switch.
+#[derive(Clone, Copy)]
+pub struct Context {
+    pub in_loop: bool,
+    pub in_switch: bool,
+    pub in_block: bool,
+    pub in_cases: bool,
+}
+
+impl Context {
+    /// Outside every loop, switch and block.
+    pub fn outside() -> Self
+        ensures { view_context result ≡ shape.outside }
+    {
+        Context {
+            in_loop: false,
+            in_switch: false,
+            in_block: false,
+            in_cases: false,
+        }
+    }
+
+    /// The context of a loop's body.
+    pub fn of_loop(self) -> Self
+        ensures { view_context result ≡ shape.of_loop (view_context self) }
+    {
+        Context {
+            in_loop: true,
+            in_switch: self.in_switch,
+            in_block: false,
+            in_cases: false,
+        }
+    }
+
+    /// The context of a branch.
+    pub fn of_branch(self) -> Self
+        ensures { view_context result ≡ shape.of_branch (view_context self) }
+    {
+        Context {
+            in_loop: self.in_loop,
+            in_switch: self.in_switch,
+            in_block: false,
+            in_cases: false,
+        }
+    }
+
+    /// The context of a statement of a block.
+    pub fn of_block(self) -> Self
+        ensures { view_context result ≡ shape.of_block (view_context self) }
+    {
+        Context {
+            in_loop: self.in_loop,
+            in_switch: self.in_switch,
+            in_block: true,
+            in_cases: false,
+        }
+    }
+
+    /// The context of a statement of a switch's block.
+    pub fn of_switch(self) -> Self
+        ensures { view_context result ≡ shape.of_switch (view_context self) }
+    {
+        Context {
+            in_loop: self.in_loop,
+            in_switch: true,
+            in_block: true,
+            in_cases: true,
+        }
+    }
+}

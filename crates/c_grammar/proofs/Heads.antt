@@ -9,7 +9,7 @@ use Rattle.c_tree.specs.ExpressionShape.{level, ShapeExpression}
 use Rattle.c_grammar.specs.declared.kind.Kind.{Kind}
 use Rattle.c_grammar.specs.declared.kind.Kind.TheVariants as k
 use Rattle.c_grammar.specs.Kind.{kind, tail_of, unary_kind, step_kind}
-use Rattle.c_grammar.specs.Rules.{Types, First, first_of_operand, no_operand, a_step, a_unary, begins_type}
+use Rattle.c_grammar.specs.Rules.{NameEnvironment, First, first_of_operand, no_operand, a_step, a_unary, begins_type}
 use Rattle.c_grammar.proofs.Onto.{onto_expression}
 use Rattle.c_grammar.proofs.OntoSpelling.{expression_onto}
 use Rattle.c_grammar.proofs.KindLemmas.{kind_at, kind_name, kind_end}
@@ -26,27 +26,27 @@ step_operand : (o : StepOp) → first_of_operand (step_kind o) ≢ no_operand
 step_operand o = λ q. let e : a_step o ≡ no_operand = sym (first_step o) ∙ q in cc
 
 -- an expression begins with what an operand begins with
-pub expression_head : (t : Types) (x : Expression) (r : Tokens) → ShapeExpression t.names x → first_of_operand (kind t.names (onto_expression x r)) ≢ no_operand
+pub expression_head : (t : NameEnvironment) (x : Expression) (r : Tokens) → ShapeExpression t.types x → first_of_operand (kind t.types (onto_expression x r)) ≢ no_operand
 expression_head t (comma x y) r s = expression_head t x _ s.2
 expression_head t (assign o x y) r s = expression_head t x _ s.2
 expression_head t (choose x y z) r s = expression_head t x _ s.3
 expression_head t (binary o x y) r s = expression_head t x _ s.2
-expression_head t (cast y x) r s = operand_from k.OpenParen _ (kind_at t.names k.OpenParen [] _ tt) (λ q. cc)
-expression_head t (unary o x) r s = operand_from (unary_kind o) _ (kind_unary t.names o _) (unary_operand o)
-expression_head t (before o x) r s = operand_from (step_kind o) _ (kind_step t.names o _) (step_operand o)
-expression_head t (size_of x) r s = operand_from k.Sizeof _ (kind_at t.names k.Sizeof [] _ tt) (λ q. cc)
-expression_head t (size_of_type y) r s = operand_from k.Sizeof _ (kind_at t.names k.Sizeof [] _ tt) (λ q. cc)
+expression_head t (cast y x) r s = operand_from k.OpenParen _ (kind_at t.types k.OpenParen [] _ tt) (λ q. cc)
+expression_head t (unary o x) r s = operand_from (unary_kind o) _ (kind_unary t.types o _) (unary_operand o)
+expression_head t (before o x) r s = operand_from (step_kind o) _ (kind_step t.types o _) (step_operand o)
+expression_head t (size_of x) r s = operand_from k.Sizeof _ (kind_at t.types k.Sizeof [] _ tt) (λ q. cc)
+expression_head t (size_of_type y) r s = operand_from k.Sizeof _ (kind_at t.types k.Sizeof [] _ tt) (λ q. cc)
 expression_head t (index x y) r s = expression_head t x _ s.1
 expression_head t (call x xs) r s = expression_head t x _ s.1
 expression_head t (dot x n) r s = expression_head t x _ s.2
 expression_head t (arrow x n) r s = expression_head t x _ s.2
 expression_head t (after o x) r s = expression_head t x _ s.1
-expression_head t (name n) r s = operand_from k.Name _ (kind_name t.names n _ s) (λ q. cc)
-expression_head t (integer n) r s = operand_from k.Integer _ (kind_at t.names k.Integer n _ tt) (λ q. cc)
-expression_head t (character n) r s = operand_from k.Character _ (kind_at t.names k.Character n _ tt) (λ q. cc)
+expression_head t (name n) r s = operand_from k.Name _ (kind_name t.types n _ s) (λ q. cc)
+expression_head t (integer n) r s = operand_from k.Integer _ (kind_at t.types k.Integer n _ tt) (λ q. cc)
+expression_head t (character n) r s = operand_from k.Character _ (kind_at t.types k.Character n _ tt) (λ q. cc)
 expression_head t (text []) r s = absurd (omega arith)
-expression_head t (text (n ∷ ns)) r s = operand_from k.Text _ (kind_at t.names k.Text n _ tt) (λ q. cc)
-expression_head t (paren x) r s = operand_from k.OpenParen _ (kind_at t.names k.OpenParen [] _ tt) (λ q. cc)
+expression_head t (text (n ∷ ns)) r s = operand_from k.Text _ (kind_at t.types k.Text n _ tt) (λ q. cc)
+expression_head t (paren x) r s = operand_from k.OpenParen _ (kind_at t.types k.OpenParen [] _ tt) (λ q. cc)
 
 -- no operand begins with a kind that begins none
 pub operand_not : (e f : Kind) → first_of_operand e ≢ no_operand → first_of_operand f ≡ no_operand → e ≢ f
@@ -69,12 +69,12 @@ operand_no_type k.Enum h = absurd (h refl)
 operand_no_type _ h = refl
 
 -- no expression is read as nothing
-spelled : (t : Types) (x : Expression) (ts : Tokens) → onto_expression x [] ≡ ts → first_of_operand (kind t.names (onto_expression x [])) ≢ no_operand → 1 ≤ length ts
-spelled t x [] e h = absurd (h (ap (λ v. first_of_operand (kind t.names v)) e ∙ ap first_of_operand (kind_end t.names)))
+spelled : (t : NameEnvironment) (x : Expression) (ts : Tokens) → onto_expression x [] ≡ ts → first_of_operand (kind t.types (onto_expression x [])) ≢ no_operand → 1 ≤ length ts
+spelled t x [] e h = absurd (h (ap (λ v. first_of_operand (kind t.types v)) e ∙ ap first_of_operand (kind_end t.types)))
 spelled t x (v ∷ vs) e h = omega arith
 
 -- an expression takes a token at least
-pub expression_longer : (t : Types) (x : Expression) (r : Tokens) → ShapeExpression t.names x → length r < length (onto_expression x r)
+pub expression_longer : (t : NameEnvironment) (x : Expression) (r : Tokens) → ShapeExpression t.types x → length r < length (onto_expression x r)
 expression_longer t x r s =
     let some : 1 ≤ length (spell_expression x) = spelled t x (spell_expression x) (expression_onto x [] ∙ append-nil (spell_expression x)) (expression_head t x [] s) in
     omega (arith, ap length (expression_onto x r), length-append (spell_expression x) r)
@@ -90,26 +90,26 @@ step_not_open : (o : StepOp) → step_kind o ≢ k.OpenParen
 step_not_open o = λ q. let e : a_step o ≡ First.an_open = sym (first_step o) ∙ ap first_of_operand q in cc
 
 -- where a unary expression begins with a bracket, no type stands in it
-pub open_no_type : (t : Types) (x : Expression) (r us : Tokens) → ShapeExpression t.names x → 15 ≤ level x → onto_expression x r ≡ mark (codes "(") ∷ us → begins_type (kind t.names us) ≡ false
+pub open_no_type : (t : NameEnvironment) (x : Expression) (r us : Tokens) → ShapeExpression t.types x → 15 ≤ level x → onto_expression x r ≡ mark (codes "(") ∷ us → begins_type (kind t.types us) ≡ false
 open_no_type t (comma x y) r us s l e = absurd (omega arith)
 open_no_type t (assign o x y) r us s l e = absurd (omega arith)
 open_no_type t (choose x y z) r us s l e = absurd (omega arith)
 open_no_type t (binary o x y) r us s l e = absurd (omega (arith, operator_most o))
 open_no_type t (cast y x) r us s l e = absurd (omega arith)
-open_no_type t (unary o x) r us s l e = heads_differ t.names _ _ _ _ e (kind_unary t.names o _) (kind_at t.names k.OpenParen [] us tt) (unary_not_open o)
-open_no_type t (before o x) r us s l e = heads_differ t.names _ _ _ _ e (kind_step t.names o _) (kind_at t.names k.OpenParen [] us tt) (step_not_open o)
-open_no_type t (size_of x) r us s l e = heads_differ t.names _ _ _ _ e (kind_at t.names k.Sizeof [] _ tt) (kind_at t.names k.OpenParen [] us tt) (λ q. cc)
-open_no_type t (size_of_type y) r us s l e = heads_differ t.names _ _ _ _ e (kind_at t.names k.Sizeof [] _ tt) (kind_at t.names k.OpenParen [] us tt) (λ q. cc)
+open_no_type t (unary o x) r us s l e = heads_differ t.types _ _ _ _ e (kind_unary t.types o _) (kind_at t.types k.OpenParen [] us tt) (unary_not_open o)
+open_no_type t (before o x) r us s l e = heads_differ t.types _ _ _ _ e (kind_step t.types o _) (kind_at t.types k.OpenParen [] us tt) (step_not_open o)
+open_no_type t (size_of x) r us s l e = heads_differ t.types _ _ _ _ e (kind_at t.types k.Sizeof [] _ tt) (kind_at t.types k.OpenParen [] us tt) (λ q. cc)
+open_no_type t (size_of_type y) r us s l e = heads_differ t.types _ _ _ _ e (kind_at t.types k.Sizeof [] _ tt) (kind_at t.types k.OpenParen [] us tt) (λ q. cc)
 open_no_type t (index x y) r us s l e = open_no_type t x _ us s.1 (omega arith) e
 open_no_type t (call x xs) r us s l e = open_no_type t x _ us s.1 (omega arith) e
 open_no_type t (dot x n) r us s l e = open_no_type t x _ us s.2 (omega arith) e
 open_no_type t (arrow x n) r us s l e = open_no_type t x _ us s.2 (omega arith) e
 open_no_type t (after o x) r us s l e = open_no_type t x _ us s.1 (omega arith) e
-open_no_type t (name n) r us s l e = heads_differ t.names _ _ _ _ e (kind_name t.names n r s) (kind_at t.names k.OpenParen [] us tt) (λ q. cc)
-open_no_type t (integer n) r us s l e = heads_differ t.names _ _ _ _ e (kind_at t.names k.Integer n r tt) (kind_at t.names k.OpenParen [] us tt) (λ q. cc)
-open_no_type t (character n) r us s l e = heads_differ t.names _ _ _ _ e (kind_at t.names k.Character n r tt) (kind_at t.names k.OpenParen [] us tt) (λ q. cc)
+open_no_type t (name n) r us s l e = heads_differ t.types _ _ _ _ e (kind_name t.types n r s) (kind_at t.types k.OpenParen [] us tt) (λ q. cc)
+open_no_type t (integer n) r us s l e = heads_differ t.types _ _ _ _ e (kind_at t.types k.Integer n r tt) (kind_at t.types k.OpenParen [] us tt) (λ q. cc)
+open_no_type t (character n) r us s l e = heads_differ t.types _ _ _ _ e (kind_at t.types k.Character n r tt) (kind_at t.types k.OpenParen [] us tt) (λ q. cc)
 open_no_type t (text []) r us s l e = absurd (omega arith)
-open_no_type t (text (n ∷ ns)) r us s l e = heads_differ t.names _ _ _ _ e (kind_at t.names k.Text n _ tt) (kind_at t.names k.OpenParen [] us tt) (λ q. cc)
+open_no_type t (text (n ∷ ns)) r us s l e = heads_differ t.types _ _ _ _ e (kind_at t.types k.Text n _ tt) (kind_at t.types k.OpenParen [] us tt) (λ q. cc)
 open_no_type t (paren x) r us s l e =
-    let same : kind t.names (onto_expression x (mark (codes ")") ∷ r)) ≡ kind t.names us = ap (λ v. kind t.names (tail_of v)) e in
+    let same : kind t.types (onto_expression x (mark (codes ")") ∷ r)) ≡ kind t.types us = ap (λ v. kind t.types (tail_of v)) e in
     ap begins_type (sym same) ∙ operand_no_type _ (expression_head t x _ s)

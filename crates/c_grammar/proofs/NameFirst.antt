@@ -10,14 +10,14 @@ use Rattle.c_grammar.specs.declared.kind.Kind.{Kind}
 use Rattle.c_grammar.specs.declared.kind.Kind.TheVariants as k
 use Rattle.c_grammar.specs.Kind.{kind, head_text, tail_of, unary_kind, step_kind, operator_kind, assignment_kind}
 use Rattle.c_grammar.specs.Body.{got, done}
-use Rattle.c_grammar.specs.Rules.{Types, First, first_of_operand, no_operand, a_step, a_unary, Reads, Infix, infix_of, no_infix, goes_on, longer, an_operator, an_assign, a_step_behind, a_whole, a_rest}
+use Rattle.c_grammar.specs.Rules.{NameEnvironment, First, first_of_operand, no_operand, a_step, a_unary, Reads, Infix, infix_of, no_infix, goes_on, longer, an_operator, an_assign, a_step_behind, a_whole, a_rest}
 use Rattle.c_grammar.proofs.Onto.{onto_expression}
 use Rattle.c_grammar.proofs.Parse.{parse}
 use Rattle.c_grammar.proofs.KindLemmas.{kind_at, kind_name, kind_type, kind_sorted}
 use Rattle.c_grammar.proofs.MoreKinds.{kind_unary, kind_step, kind_operator, kind_assignment, first_unary, first_step, infix_operator, infix_assignment, infix_step, infix_sorted}
 use Rattle.c_grammar.proofs.Heads.{expression_head, heads_differ}
 use Rattle.c_grammar.proofs.Runs.{ran, run_seen, run_done, run_take, run_spend}
-use Rattle.c_grammar.proofs.ReadsOperands.{prefix_reads}
+use Rattle.c_grammar.proofs.ReadBack.Operands.{prefix_reads}
 
 unary_no_name : (o : UnaryOp) → unary_kind o ≢ k.Name
 unary_no_name o = λ q. let e : a_unary o ≡ First.a_word = sym (first_unary o) ∙ ap first_of_operand q in cc
@@ -37,7 +37,7 @@ other : {P : Type 0} (ts us : Tokens) (n : Name) (e : Kind) → ts ≡ name_toke
 other ts us n e same is differ = heads_differ [] ts (name_token n ∷ us) e k.Name same is (kind_name [] n us refl) differ
 
 -- a colon directly behind the first name stands behind the expression
-pub colon_behind : (t : Types) (x : Expression) (r : Tokens) (n : Name) (us : Tokens) → ShapeExpression t.names x → onto_expression x r ≡ name_token n ∷ us → kind [] us ≡ k.Colon → us ≡ r
+pub colon_behind : (t : NameEnvironment) (x : Expression) (r : Tokens) (n : Name) (us : Tokens) → ShapeExpression t.types x → onto_expression x r ≡ name_token n ∷ us → kind [] us ≡ k.Colon → us ≡ r
 colon_behind t (comma x y) r n us s e c = behind us _ k.Comma (colon_behind t x _ n us s.2 e c) (kind_at [] k.Comma [] _ tt) (λ q. cc) c
 colon_behind t (assign o x y) r n us s e c =
     behind us _ (assignment_kind o) (colon_behind t x _ n us s.2 e c) (kind_assignment [] o _) (λ q. let f : an_assign o ≡ no_infix = sym (infix_assignment o) ∙ q in cc) c
@@ -67,17 +67,17 @@ first_name types n us true e h = absurd (h (ap first_of_operand (kind_type types
 first_name types n us false e h = kind_name types n us e
 
 -- where a name begins an expression, what is read goes on behind the name; a colon there stands behind the expression
-pub name_first : (t : Types) (d o : ℕ) (x : Expression) (r : Tokens) (n : Name) (us : Tokens) → ShapeExpression t.names x → onto_expression x r ≡ name_token n ∷ us →
+pub name_first : (t : NameEnvironment) (d o : ℕ) (x : Expression) (r : Tokens) (n : Name) (us : Tokens) → ShapeExpression t.types x → onto_expression x r ≡ name_token n ∷ us →
     (parse (a_whole t d 1 o) (onto_expression x r) ≡ parse (a_rest t d 1 (name n)) us) × (kind [] us ≡ k.Colon → us ≡ r)
 name_first t d o x r n us s begins =
-    let first : kind t.names (name_token n ∷ us) ≡ k.Name = first_name t.names n us (is_among t.names n) refl (λ q. expression_head t x r s (ap (λ v. first_of_operand (kind t.names v)) begins ∙ q)) in (
+    let first : kind t.types (name_token n ∷ us) ≡ k.Name = first_name t.types n us (is_among t.types n) refl (λ q. expression_head t x r s (ap (λ v. first_of_operand (kind t.types v)) begins ∙ q)) in (
       ap (parse (a_whole t d 1 o)) begins ∙ prefix_reads t d 1 o (name_token n ∷ us) (name n) us k.Name First.a_word first refl (run_spend (run_take (run_done refl))),
       λ colon. colon_behind t x r n us s begins colon,
     )
 
 -- where nothing goes on behind a name, nothing more is read
-pub name_stops : (t : Types) (d : ℕ) (n : Name) (us : Tokens) → infix_of (kind [] us) ≡ no_infix → parse (a_rest t d 1 (name n)) us ≡ got (name n) us tt
+pub name_stops : (t : NameEnvironment) (d : ℕ) (n : Name) (us : Tokens) → infix_of (kind [] us) ≡ no_infix → parse (a_rest t d 1 (name n)) us ≡ got (name n) us tt
 name_stops t d n us none =
-    let same : infix_of (kind t.names us) ≡ no_infix = ap infix_of (kind_sorted t.names us) ∙ infix_sorted t.names (kind [] us) (head_text us) ∙ none in
+    let same : infix_of (kind t.types us) ≡ no_infix = ap infix_of (kind_sorted t.types us) ∙ infix_sorted t.types (kind [] us) (head_text us) ∙ none in
     let f : Infix → Reads Expression = λ i. cond (goes_on 1 i 17) (longer t d 1 (name n) i) (done (name n)) in
     ran (a_rest t d 1 (name n)) us (got (name n) us tt) (run_seen (ap f same) (run_done refl))

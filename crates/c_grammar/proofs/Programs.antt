@@ -16,15 +16,15 @@ use Rattle.c_grammar.proofs.Parse.{bounded}
 use Rattle.c_grammar.proofs.Conditions.{all_go}
 use Rattle.c_grammar.proofs.Sure.{holds_got}
 use Rattle.c_grammar.proofs.Read.{Read}
-use Rattle.c_grammar.proofs.Declares.{Yields}
-use Rattle.c_grammar.proofs.Costs.{Costs}
+use Rattle.c_grammar.proofs.Declares.Apart.{Yields}
+use Rattle.c_grammar.proofs.Costs.Counting.{Costs}
 use Rattle.c_grammar.proofs.Limits.{limited_free, limited_free-refused, limited_counted, free_counted, within_limits, Fits-fits}
 use Rattle.c_grammar.proofs.Local.{refused_early, exceeded_early}
 use Rattle.c_grammar.proofs.Onto.{onto_program}
-use Rattle.c_grammar.proofs.AllSound.{all_sound}
-use Rattle.c_grammar.proofs.AllCost.{all_cost}
+use Rattle.c_grammar.proofs.Sound.All.{all_sound}
+use Rattle.c_grammar.proofs.Costs.All.{all_cost}
 use Rattle.c_grammar.proofs.OntoSpelling.{program_onto}
-use Rattle.c_grammar.proofs.CompleteItems.{reads_back as parses_back}
+use Rattle.c_grammar.proofs.ReadBack.Items.{reads_back as parses_back}
 use Rattle.c_grammar.proofs.Parse.{parse}
 
 abbrev pub whole : Rule

@@ -10,7 +10,7 @@ use Rattle.c_grammar.specs.declared.kind.Kind.TheVariants as k
 use Rattle.c_grammar.specs.Kind.{kind, token_of, IsFixed}
 use Rattle.c_grammar.specs.Body.{done, look, take, spend, rise, call, scope, Outcome, got, refused, exceeded, and_then, exec}
 use Rattle.c_grammar.specs.Gauge.{free}
-use Rattle.c_grammar.specs.Rules.{Types, Rule, Result, Reads, rule, rank, expect, a_rest, named_by, naming}
+use Rattle.c_grammar.specs.Rules.{NameEnvironment, Rule, Result, Reads, rule, rank, expect, a_rest, named_by, naming}
 use Rattle.c_grammar.proofs.KindLemmas.{kind_at, kind_name, same_refl}
 use Rattle.c_grammar.proofs.Parse.{parse, opening}
 
@@ -93,6 +93,6 @@ module _ {A : Type 0} {taken : Bool} {limit : ℕ} {o : Outcome (Unit {0}) A} wh
   run_naming false d h = h
 
 -- a body that ends with how an expression goes on
-pub run_rest : {t : Types} {d l : ℕ} {x : Expression} {taken : Bool} {limit : ℕ} {ts : Tokens} {o : Outcome (Unit {0}) Expression} → taken || nat_lt 1 limit ≡ true → parse (a_rest t d l x) ts ≡ o →
+pub run_rest : {t : NameEnvironment} {d l : ℕ} {x : Expression} {taken : Bool} {limit : ℕ} {ts : Tokens} {o : Outcome (Unit {0}) Expression} → taken || nat_lt 1 limit ≡ true → parse (a_rest t d l x) ts ≡ o →
     Runs taken limit (call (a_rest t d l x) (λ v. done v)) ts o
 run_rest {t} {d} {l} {x} {taken} {limit} {ts} {o} goes is = record { runs = rw goes (then_done (parse (a_rest t d l x) ts) ∙ is) }

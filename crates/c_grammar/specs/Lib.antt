@@ -6,3 +6,7 @@ pub mod Cursor
 pub mod Rules
 pub mod Reading
 pub mod Performing
+pub mod Gives
+pub mod Stepping
+pub mod Lists
+pub mod Known

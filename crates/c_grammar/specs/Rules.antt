@@ -26,86 +26,86 @@ use Rattle.c_grammar.specs.Kind.{same_kind}
 use Rattle.c_grammar.specs.Body.{Body, done, stop, look, take, spend, rise, scope}
 use Rattle.c_grammar.specs.Body as body
 
--- the names that are types, and those that are taken: they may be used, but not be declared
-pub record Types : Type 0 where
-  pub names : List Name
-  pub taken : List Name
+-- what the names mean where a token is read: those that are types, and those that are reserved: they may be used, but not be declared
+pub record NameEnvironment : Type 0 where
+  pub types : List Name
+  pub reserved : List Name
 
 -- the names that may not be declared
-abbrev pub barred : Types → List Name
-barred t = t.taken ++ t.names
+abbrev pub barred : NameEnvironment → List Name
+barred t = t.reserved ++ t.types
 
--- behind this name in its own declarator: there the name of a type is taken
-abbrev pub inside : Bool → Name → Types → Types
-inside y n t = record { names = t.names; taken = if y then n ∷ [] else t.taken }
+-- behind this name in its own declarator: there the name of a type is reserved
+abbrev pub inside : Bool → Name → NameEnvironment → NameEnvironment
+inside y n t = record { types = t.types; reserved = if y then n ∷ [] else t.reserved }
 
--- these names are types, and none is taken
-abbrev pub only_types : List Name → Types
-only_types types = record { names = types; taken = [] }
+-- these names are types, and none is reserved
+abbrev pub only_types : List Name → NameEnvironment
+only_types types = record { types = types; reserved = [] }
 
 pub data Rule : Type 0 where
   -- an expression of at least a level: types, d, level, owed
-  an_expression : Types → ℕ → ℕ → ℕ → Rule
+  an_expression : NameEnvironment → ℕ → ℕ → ℕ → Rule
   -- the same, in its own scope
-  a_whole : Types → ℕ → ℕ → ℕ → Rule
+  a_whole : NameEnvironment → ℕ → ℕ → ℕ → Rule
   -- its first operand
-  a_prefix : Types → ℕ → ℕ → ℕ → Rule
+  a_prefix : NameEnvironment → ℕ → ℕ → ℕ → Rule
   -- how an expression goes on behind one that was read
-  a_rest : Types → ℕ → ℕ → Expression → Rule
+  a_rest : NameEnvironment → ℕ → ℕ → Expression → Rule
   -- the operand of sizeof whose bracket was read
-  an_opened : Types → ℕ → Rule
+  an_opened : NameEnvironment → ℕ → Rule
   more_texts : Rule
   -- the arguments of a call, with the closing bracket
-  all_arguments : Types → ℕ → Rule
-  more_arguments : Types → ℕ → Rule
-  a_type : Types → ℕ → Rule
+  all_arguments : NameEnvironment → ℕ → Rule
+  more_arguments : NameEnvironment → ℕ → Rule
+  a_type : NameEnvironment → ℕ → Rule
   -- specifiers, behind those of these words; perhaps with a name to follow them, unless they have a struct or an enum
-  all_specifiers : Types → ℕ → Bool → List TypeWord → Rule
+  all_specifiers : NameEnvironment → ℕ → Bool → List TypeWord → Rule
   -- behind the word struct
-  a_struct : Types → ℕ → Rule
+  a_struct : NameEnvironment → ℕ → Rule
   -- the members of a struct, with the closing brace
-  all_members : Types → ℕ → Rule
-  more_members : Types → ℕ → Rule
-  all_declarators : Types → ℕ → Rule
-  more_declarators : Types → ℕ → Rule
+  all_members : NameEnvironment → ℕ → Rule
+  more_members : NameEnvironment → ℕ → Rule
+  all_declarators : NameEnvironment → ℕ → Rule
+  more_declarators : NameEnvironment → ℕ → Rule
   -- behind the word enum
-  an_enum : Types → ℕ → Rule
+  an_enum : NameEnvironment → ℕ → Rule
   -- the enumerators, with the closing brace
-  all_enumerators : Types → ℕ → Rule
-  more_enumerators : Types → ℕ → Rule
+  all_enumerators : NameEnvironment → ℕ → Rule
+  more_enumerators : NameEnvironment → ℕ → Rule
   all_stars : Rule
   all_quals : Rule
   -- a declarator, perhaps of a function, perhaps of a type
-  a_declarator : Types → ℕ → Bool → Bool → Rule
-  all_sizes : Types → ℕ → Rule
-  at_most_one_size : Types → ℕ → Rule
+  a_declarator : NameEnvironment → ℕ → Bool → Bool → Rule
+  all_sizes : NameEnvironment → ℕ → Rule
+  at_most_one_size : NameEnvironment → ℕ → Rule
   -- the parameters of a function, with the closing bracket
-  all_parameters : Types → ℕ → Rule
-  some_parameters : Types → ℕ → Rule
-  more_parameters : Types → ℕ → Rule
-  a_parameter : Types → ℕ → Rule
-  a_bare : Types → ℕ → Rule
-  an_initializer : Types → ℕ → ℕ → Rule
+  all_parameters : NameEnvironment → ℕ → Rule
+  some_parameters : NameEnvironment → ℕ → Rule
+  more_parameters : NameEnvironment → ℕ → Rule
+  a_parameter : NameEnvironment → ℕ → Rule
+  a_bare : NameEnvironment → ℕ → Rule
+  an_initializer : NameEnvironment → ℕ → ℕ → Rule
   -- the parts of a list of initialisers, with the closing brace
-  all_initializers : Types → ℕ → ℕ → Rule
-  more_initializers : Types → ℕ → Rule
+  all_initializers : NameEnvironment → ℕ → ℕ → Rule
+  more_initializers : NameEnvironment → ℕ → Rule
   -- a declaration inside a function
-  a_declaration : Types → ℕ → Rule
-  a_declared : Types → ℕ → Storage → Rule
-  a_named : Types → ℕ → Rule
+  a_declaration : NameEnvironment → ℕ → Rule
+  a_declared : NameEnvironment → ℕ → Storage → Rule
+  a_named : NameEnvironment → ℕ → Rule
   -- the names behind the first, with the semicolon
-  more_named : Types → ℕ → Rule
+  more_named : NameEnvironment → ℕ → Rule
   -- an expression and this token, or the token alone
-  an_optional : Types → ℕ → Kind → Rule
-  a_start : Types → ℕ → Rule
-  a_statement : Types → ℕ → Place → ℕ → Rule
+  an_optional : NameEnvironment → ℕ → Kind → Rule
+  a_start : NameEnvironment → ℕ → Rule
+  a_statement : NameEnvironment → ℕ → Place → ℕ → Rule
   -- the statements of a block, with the closing brace
-  all_statements : Types → ℕ → Place → Rule
+  all_statements : NameEnvironment → ℕ → Place → Rule
   -- a name that is declared outside functions
   an_outer : Storage → Scope → Rule
   more_outer : Storage → Scope → Rule
   -- the declarator of a function or of the first name of a declaration
-  a_first : Types → Rule
+  a_first : NameEnvironment → Rule
   an_item : Scope → Rule
   all_items : Scope → Rule
 
@@ -180,11 +180,11 @@ abbrev pub named_by : {A : Type 0} → List Name → (Name → Reads A) → Kind
 named_by ns f k.Name = take (λ n. if is_among ns n then stop else f n)
 named_by ns f _ = stop
 
-abbrev pub a_name : {A : Type 0} → Types → (Name → Reads A) → Reads A
-a_name t f = look t.names (named_by [] f)
+abbrev pub a_name : {A : Type 0} → NameEnvironment → (Name → Reads A) → Reads A
+a_name t f = look t.types (named_by [] f)
 
 -- a name that may be declared
-abbrev pub a_new_name : {A : Type 0} → Types → (Name → Reads A) → Reads A
+abbrev pub a_new_name : {A : Type 0} → NameEnvironment → (Name → Reads A) → Reads A
 a_new_name t f = look (barred t) (named_by [] f)
 
 -- ---- expressions
@@ -346,7 +346,7 @@ begins_declarator k.OpenParen = true
 begins_declarator _ = false
 
 -- in brackets: a type and an operand, or an expression; no cast stands where a unary expression has to
-abbrev pub opened_by : Types → ℕ → ℕ → Kind → Reads Expression
+abbrev pub opened_by : NameEnvironment → ℕ → ℕ → Kind → Reads Expression
 opened_by t d least kind =
     if begins_type kind && nat_le least 14
     then (do
@@ -360,7 +360,7 @@ opened_by t d least kind =
       done (paren x))
 
 -- behind sizeof and a bracket
-abbrev pub sized_by : Types → ℕ → Kind → Reads Expression
+abbrev pub sized_by : NameEnvironment → ℕ → Kind → Reads Expression
 sized_by t d kind =
     if begins_type kind
     then (do
@@ -370,20 +370,20 @@ sized_by t d kind =
     else scope (d + 2) (an_opened t (d + 1)) (λ x. done (size_of x))
 
 -- behind sizeof
-abbrev pub sizeof_by : Types → ℕ → Kind → Reads Expression
-sizeof_by t d k.OpenParen = skip (look t.names (sized_by t d))
+abbrev pub sizeof_by : NameEnvironment → ℕ → Kind → Reads Expression
+sizeof_by t d k.OpenParen = skip (look t.types (sized_by t d))
 sizeof_by t d _ = do
   x ← an_expression t (d + 1) 15 1
   done (size_of x)
 
-abbrev pub prefix_by : Types → ℕ → ℕ → ℕ → First → Reads Expression
+abbrev pub prefix_by : NameEnvironment → ℕ → ℕ → ℕ → First → Reads Expression
 prefix_by t d least owed no_operand = stop
 prefix_by t d least owed a_word = spend owed (d + 1) (take (λ n. done (name n)))
 prefix_by t d least owed a_number = spend owed (d + 1) (take (λ n. done (integer n)))
 prefix_by t d least owed a_character = spend owed (d + 1) (take (λ n. done (character n)))
 prefix_by t d least owed a_text = spend owed (d + 1) (take (λ n. body.call more_texts (λ ns. done (text (n ∷ ns)))))
-prefix_by t d least owed an_open = spend (owed + 1) (d + 2) (skip (look t.names (opened_by t d least)))
-prefix_by t d least owed a_sizeof = spend owed (d + 1) (skip (look t.names (sizeof_by t d)))
+prefix_by t d least owed an_open = spend (owed + 1) (d + 2) (skip (look t.types (opened_by t d least)))
+prefix_by t d least owed a_sizeof = spend owed (d + 1) (skip (look t.types (sizeof_by t d)))
 prefix_by t d least owed (a_step o) = do
   spend (owed + 1) (d + 2)
   skip
@@ -396,7 +396,7 @@ prefix_by t d least owed (a_unary o) = do
   done (unary o x)
 
 -- how an expression of at least a level goes on behind x
-abbrev pub longer : Types → ℕ → ℕ → Expression → Infix → Reads Expression
+abbrev pub longer : NameEnvironment → ℕ → ℕ → Expression → Infix → Reads Expression
 longer t d least x no_infix = done x
 longer t d least x a_comma = do
   rise
@@ -456,14 +456,14 @@ abbrev pub texts_by : Kind → Reads (List Name)
 texts_by k.Text = take (λ n. body.call more_texts (λ ns. done (n ∷ ns)))
 texts_by _ = done []
 
-abbrev pub arguments_by : Types → ℕ → Kind → Reads Expressions
+abbrev pub arguments_by : NameEnvironment → ℕ → Kind → Reads Expressions
 arguments_by t d k.CloseParen = skip (done no_expressions)
 arguments_by t d _ = do
   x ← an_expression t d 2 1
   xs ← more_arguments t d
   done (expressions x xs)
 
-abbrev pub more_arguments_by : Types → ℕ → Kind → Reads Expressions
+abbrev pub more_arguments_by : NameEnvironment → ℕ → Kind → Reads Expressions
 more_arguments_by t d k.CloseParen = skip (done no_expressions)
 more_arguments_by t d k.Comma = do
   spend 1 (d + 1)
@@ -486,7 +486,7 @@ with_word ws w f = if is_one_type (ws ++ w ∷ []) then f else ends_type ws
 abbrev pub naming : {A : Type 0} → Bool → ℕ → Reads A → Reads A
 naming b d f = if b then spend 1 (d + 1) f else f
 
-abbrev pub specifiers_by : Types → ℕ → Bool → List TypeWord → Start → Reads Specifiers
+abbrev pub specifiers_by : NameEnvironment → ℕ → Bool → List TypeWord → Start → Reads Specifiers
 specifiers_by t d b ws no_specifier = ends_type ws
 specifiers_by t d b ws (a_qualifier x) = do
   skip
@@ -509,7 +509,7 @@ specifiers_by t d b ws an_enum_word = with_word ws of_whole (do
   done (specifiers x xs))
 
 -- the members, or the tag alone
-abbrev pub struct_body_by : Types → ℕ → Name → Kind → Reads Specifier
+abbrev pub struct_body_by : NameEnvironment → ℕ → Name → Kind → Reads Specifier
 struct_body_by t d n k.OpenBrace = do
   spend 1 (d + 1)
   skip
@@ -517,7 +517,7 @@ struct_body_by t d n k.OpenBrace = do
   done (struct_of (Some n) ms)
 struct_body_by t d n _ = done (struct_tag n)
 
-abbrev pub struct_by : Types → ℕ → Kind → Reads Specifier
+abbrev pub struct_by : NameEnvironment → ℕ → Kind → Reads Specifier
 struct_by t d k.Name = take (λ n. look [] (struct_body_by t d n))
 struct_by t d k.OpenBrace = do
   spend 1 (d + 1)
@@ -526,14 +526,14 @@ struct_by t d k.OpenBrace = do
   done (struct_of None ms)
 struct_by t d _ = stop
 
-abbrev pub more_members_by : Types → ℕ → Kind → Reads Members
+abbrev pub more_members_by : NameEnvironment → ℕ → Kind → Reads Members
 more_members_by t d k.CloseBrace = skip (done no_members)
 more_members_by t d kind =
     if begins_type kind
     then spend 1 (d + 1) (body.call (all_members t d) done)
     else stop
 
-abbrev pub more_declarators_by : Types → ℕ → Kind → Reads Declarators
+abbrev pub more_declarators_by : NameEnvironment → ℕ → Kind → Reads Declarators
 more_declarators_by t d k.Comma = do
   spend 1 (d + 1)
   skip
@@ -542,7 +542,7 @@ more_declarators_by t d k.Comma = do
   done (declarators c cs)
 more_declarators_by t d _ = done no_declarators
 
-abbrev pub enum_body_by : Types → ℕ → Name → Kind → Reads Specifier
+abbrev pub enum_body_by : NameEnvironment → ℕ → Name → Kind → Reads Specifier
 enum_body_by t d n k.OpenBrace = do
   spend 1 (d + 1)
   skip
@@ -550,7 +550,7 @@ enum_body_by t d n k.OpenBrace = do
   done (enum_of (Some n) es.0 es.1)
 enum_body_by t d n _ = done (enum_tag n)
 
-abbrev pub enum_by : Types → ℕ → Kind → Reads Specifier
+abbrev pub enum_by : NameEnvironment → ℕ → Kind → Reads Specifier
 enum_by t d k.Name = take (λ n. look [] (enum_body_by t d n))
 enum_by t d k.OpenBrace = do
   spend 1 (d + 1)
@@ -560,7 +560,7 @@ enum_by t d k.OpenBrace = do
 enum_by t d _ = stop
 
 -- behind the name of an enumerator
-abbrev pub enumerator_by : Types → ℕ → Name → Kind → Reads (Enumerators × Bool)
+abbrev pub enumerator_by : NameEnvironment → ℕ → Name → Kind → Reads (Enumerators × Bool)
 enumerator_by t d n k.Assign = do
   spend 1 (d + 2)
   skip
@@ -572,12 +572,12 @@ enumerator_by t d n _ = do
   done (enumerator n es.0, es.1)
 
 -- behind a comma: another enumerator, or the end
-abbrev pub next_enumerator_by : Types → ℕ → Kind → Reads (Enumerators × Bool)
+abbrev pub next_enumerator_by : NameEnvironment → ℕ → Kind → Reads (Enumerators × Bool)
 next_enumerator_by t d k.CloseBrace = skip (done (no_enumerators, true))
 next_enumerator_by t d k.Name = spend 1 (d + 1) (body.call (all_enumerators t d) done)
 next_enumerator_by t d _ = stop
 
-abbrev pub more_enumerators_by : Types → ℕ → Kind → Reads (Enumerators × Bool)
+abbrev pub more_enumerators_by : NameEnvironment → ℕ → Kind → Reads (Enumerators × Bool)
 more_enumerators_by t d k.CloseBrace = skip (done (no_enumerators, false))
 more_enumerators_by t d k.Comma = skip (look (barred t) (next_enumerator_by t d))
 more_enumerators_by t d _ = stop
@@ -602,7 +602,7 @@ quals_by k.Volatile = do
 quals_by _ = done []
 
 -- behind the stars and the name of a declarator
-abbrev pub declared_by : Types → ℕ → Bool → Stars → Name → Kind → Reads DeclaratorTree
+abbrev pub declared_by : NameEnvironment → ℕ → Bool → Stars → Name → Kind → Reads DeclaratorTree
 declared_by t d f ss n k.OpenBracket = do
   xs ← all_sizes t d
   done (array ss n xs)
@@ -613,7 +613,7 @@ declared_by t d f ss n k.OpenParen = if f then (do
 declared_by t d f ss n _ = done (plain ss n)
 
 -- behind the name of a pointer to a function
-abbrev pub pointed : Types → ℕ → Stars → Quals → Name → Reads DeclaratorTree
+abbrev pub pointed : NameEnvironment → ℕ → Stars → Quals → Name → Reads DeclaratorTree
 pointed t d ss qs n = do
   xs ← at_most_one_size t d
   expect k.CloseParen
@@ -621,7 +621,7 @@ pointed t d ss qs n = do
   ps ← all_parameters t d
   done (pointer ss qs n xs ps.0 ps.1)
 
-abbrev pub declarator_by : Types → ℕ → Bool → Bool → Stars → Kind → Reads DeclaratorTree
+abbrev pub declarator_by : NameEnvironment → ℕ → Bool → Bool → Stars → Kind → Reads DeclaratorTree
 declarator_by t d f y ss k.Name = take (λ n. look [] (declared_by (inside y n t) d f ss n))
 declarator_by t d f y ss k.OpenParen = do
   skip
@@ -630,7 +630,7 @@ declarator_by t d f y ss k.OpenParen = do
   a_new_name t (λ n. pointed (inside y n t) d ss qs n)
 declarator_by t d f y ss _ = stop
 
-abbrev pub size_by : Types → ℕ → Kind → Reads Sizes
+abbrev pub size_by : NameEnvironment → ℕ → Kind → Reads Sizes
 size_by t d k.CloseBracket = do
   skip
   xs ← all_sizes t d
@@ -641,19 +641,19 @@ size_by t d _ = do
   xs ← all_sizes t d
   done (size x xs)
 
-abbrev pub sizes_by : Types → ℕ → Kind → Reads Sizes
-sizes_by t d k.OpenBracket = skip (look t.names (size_by t d))
+abbrev pub sizes_by : NameEnvironment → ℕ → Kind → Reads Sizes
+sizes_by t d k.OpenBracket = skip (look t.types (size_by t d))
 sizes_by t d _ = done no_sizes
 
-abbrev pub one_size_by : Types → ℕ → Kind → Reads Sizes
+abbrev pub one_size_by : NameEnvironment → ℕ → Kind → Reads Sizes
 one_size_by t d k.CloseBracket = skip (done (open_size no_sizes))
 one_size_by t d _ = do
   x ← an_expression t d 3 1
   expect k.CloseBracket
   done (size x no_sizes)
 
-abbrev pub at_most_one_by : Types → ℕ → Kind → Reads Sizes
-at_most_one_by t d k.OpenBracket = skip (look t.names (one_size_by t d))
+abbrev pub at_most_one_by : NameEnvironment → ℕ → Kind → Reads Sizes
+at_most_one_by t d k.OpenBracket = skip (look t.types (one_size_by t d))
 at_most_one_by t d _ = done no_sizes
 
 -- the one word void is the empty list
@@ -661,13 +661,13 @@ abbrev pub listed_parameters : Parameters → Parameters × Bool
 listed_parameters (parameters (specifiers void_word no_specifiers) (bare_form (bare_stars [])) no_parameters) = (no_parameters, true)
 listed_parameters ps = (ps, false)
 
-abbrev pub parameters_by : Types → ℕ → Kind → Reads (Parameters × Bool)
+abbrev pub parameters_by : NameEnvironment → ℕ → Kind → Reads (Parameters × Bool)
 parameters_by t d k.CloseParen = skip (done (no_parameters, false))
 parameters_by t d _ = do
   ps ← some_parameters t d
   done (listed_parameters ps)
 
-abbrev pub more_parameters_by : Types → ℕ → Kind → Reads Parameters
+abbrev pub more_parameters_by : NameEnvironment → ℕ → Kind → Reads Parameters
 more_parameters_by t d k.CloseParen = skip (done no_parameters)
 more_parameters_by t d k.Comma = do
   skip
@@ -679,14 +679,14 @@ abbrev pub Parameter : Type 0
 Parameter = Specifiers × ParameterForm
 
 -- behind the stars and the name of a parameter
-abbrev pub parameter_name_by : Types → ℕ → Specifiers → Stars → Name → Kind → Reads Parameter
+abbrev pub parameter_name_by : NameEnvironment → ℕ → Specifiers → Stars → Name → Kind → Reads Parameter
 parameter_name_by t d ws ss n k.OpenBracket = do
   xs ← all_sizes t (d + 1)
   done (ws, named_form (array ss n xs))
 parameter_name_by t d ws ss n _ = done (ws, named_form (plain ss n))
 
 -- behind the star and the qualifiers of a pointer to a function
-abbrev pub parameter_pointer_by : Types → ℕ → Specifiers → Stars → Quals → Kind → Reads Parameter
+abbrev pub parameter_pointer_by : NameEnvironment → ℕ → Specifiers → Stars → Quals → Kind → Reads Parameter
 parameter_pointer_by t d ws ss qs k.Name = rise (spend 1 (d + 1) (take (λ n. (do
   xs ← at_most_one_size t (d + 1)
   expect k.CloseParen
@@ -700,7 +700,7 @@ parameter_pointer_by t d ws ss qs k.CloseParen = do
   done (ws, bare_form (bare_pointer ss qs ps.0 ps.1))
 parameter_pointer_by t d ws ss qs _ = stop
 
-abbrev pub parameter_by : Types → ℕ → Specifiers → Stars → Kind → Reads Parameter
+abbrev pub parameter_by : NameEnvironment → ℕ → Specifiers → Stars → Kind → Reads Parameter
 parameter_by t d ws ss k.Name = rise (spend 1 (d + 1) (take (λ n. look [] (parameter_name_by t d ws ss n))))
 parameter_by t d ws ss k.OpenParen = do
   skip
@@ -709,7 +709,7 @@ parameter_by t d ws ss k.OpenParen = do
   look (barred t) (parameter_pointer_by t d ws ss qs)
 parameter_by t d ws ss _ = done (ws, bare_form (bare_stars ss))
 
-abbrev pub bare_by : Types → ℕ → Stars → Kind → Reads BareTree
+abbrev pub bare_by : NameEnvironment → ℕ → Stars → Kind → Reads BareTree
 bare_by t d ss k.OpenParen = do
   skip
   expect k.Star
@@ -722,7 +722,7 @@ bare_by t d ss _ = done (bare_stars ss)
 
 -- ---- initialisers and declarations
 
-abbrev pub initializer_by : Types → ℕ → ℕ → Kind → Reads Initializer
+abbrev pub initializer_by : NameEnvironment → ℕ → ℕ → Kind → Reads Initializer
 initializer_by t d owed k.OpenBrace = do
   spend (owed + 1) (d + 2)
   skip
@@ -732,7 +732,7 @@ initializer_by t d owed _ = do
   x ← an_expression t d 2 owed
   done (single x)
 
-abbrev pub initializers_by : Types → ℕ → ℕ → Kind → Reads (Initializers × Bool)
+abbrev pub initializers_by : NameEnvironment → ℕ → ℕ → Kind → Reads (Initializers × Bool)
 initializers_by t d owed k.Dot = spend owed (d + 1) (skip (a_name t (λ n. (do
   expect k.Assign
   i ← an_initializer t d 0
@@ -743,18 +743,18 @@ initializers_by t d owed _ = do
   ps ← more_initializers t d
   done (initializers None i ps.0, ps.1)
 
-abbrev pub next_initializer_by : Types → ℕ → Kind → Reads (Initializers × Bool)
+abbrev pub next_initializer_by : NameEnvironment → ℕ → Kind → Reads (Initializers × Bool)
 next_initializer_by t d k.CloseBrace = skip (done (no_initializers, true))
 next_initializer_by t d _ = do
   ps ← all_initializers t d 1
   done ps
 
-abbrev pub more_initializers_by : Types → ℕ → Kind → Reads (Initializers × Bool)
+abbrev pub more_initializers_by : NameEnvironment → ℕ → Kind → Reads (Initializers × Bool)
 more_initializers_by t d k.CloseBrace = skip (done (no_initializers, false))
-more_initializers_by t d k.Comma = skip (look t.names (next_initializer_by t d))
+more_initializers_by t d k.Comma = skip (look t.types (next_initializer_by t d))
 more_initializers_by t d _ = stop
 
-abbrev pub declaration_by : Types → ℕ → Kind → Reads DeclarationTree
+abbrev pub declaration_by : NameEnvironment → ℕ → Kind → Reads DeclarationTree
 declaration_by t d k.Static = do
   skip
   x ← a_declared t d st.Static
@@ -768,7 +768,7 @@ declaration_by t d _ = do
   done x
 
 -- where the specifiers have a struct or an enum, the first declarator makes a name necessary
-abbrev pub declared_names_by : Types → ℕ → Storage → Specifiers → Kind → Reads DeclarationTree
+abbrev pub declared_names_by : NameEnvironment → ℕ → Storage → Specifiers → Kind → Reads DeclarationTree
 declared_names_by t d c ws k.Semicolon = if has_tag ws then skip (done (record { storage = c; specs = ws; names = [] })) else stop
 declared_names_by t d c ws kind =
     if begins_declarator kind
@@ -784,7 +784,7 @@ has_initializer (function ss n ps v) = false
 has_initializer _ = true
 
 -- behind a declarator, whose name has depth d: an initialiser, or none
-abbrev pub named_init_by : Types → ℕ → Bool → DeclaratorTree → Kind → Reads NamedTree
+abbrev pub named_init_by : NameEnvironment → ℕ → Bool → DeclaratorTree → Kind → Reads NamedTree
 named_init_by t d may c k.Assign = if may then (do
   spend 1 (d + 1)
   skip
@@ -792,7 +792,7 @@ named_init_by t d may c k.Assign = if may then (do
   done (record { declarator = c; init = Some i })) else stop
 named_init_by t d may c _ = done (record { declarator = c; init = None })
 
-abbrev pub more_named_by : Types → ℕ → Kind → Reads (List NamedTree)
+abbrev pub more_named_by : NameEnvironment → ℕ → Kind → Reads (List NamedTree)
 more_named_by t d k.Semicolon = skip (done [])
 more_named_by t d k.Comma = do
   spend 1 (d + 1)
@@ -804,7 +804,7 @@ more_named_by t d _ = stop
 
 -- ---- statements
 
-abbrev pub optional_by : Types → ℕ → Kind → Kind → Reads (Option Expression)
+abbrev pub optional_by : NameEnvironment → ℕ → Kind → Kind → Reads (Option Expression)
 optional_by t d e kind =
     if same_kind kind e
     then skip (done None)
@@ -813,7 +813,7 @@ optional_by t d e kind =
       expect e
       done (Some x))
 
-abbrev pub start_by : Types → ℕ → Kind → Reads ForStartTree
+abbrev pub start_by : NameEnvironment → ℕ → Kind → Reads ForStartTree
 start_by t d kind =
     if begins_declaration kind
     then spend 1 (d + 1) (do
@@ -824,7 +824,7 @@ start_by t d kind =
       done (start_expression x))
 
 -- behind the branch of an if
-abbrev pub else_by : Types → ℕ → Place → Expression → StatementTree → Kind → Reads StatementTree
+abbrev pub else_by : NameEnvironment → ℕ → Place → Expression → StatementTree → Kind → Reads StatementTree
 else_by t d p x y k.Else = do
   spend 1 (d + 2)
   skip
@@ -833,7 +833,7 @@ else_by t d p x y k.Else = do
 else_by t d p x y _ = done (if_statement x y)
 
 -- an expression, whose first token is the next
-abbrev pub expressed : Types → ℕ → ℕ → Reads StatementTree
+abbrev pub expressed : NameEnvironment → ℕ → ℕ → Reads StatementTree
 expressed t d owed = do
   x ← an_expression t (d + 1) 1 (owed + 1)
   expect k.Semicolon
@@ -845,14 +845,14 @@ follows_name k.Semicolon = true
 follows_name kind = goes_on 1 (infix_of kind) 17
 
 -- behind a name that begins a statement in a block
-abbrev pub labelled_by : Types → ℕ → Name → Kind → Reads StatementTree
+abbrev pub labelled_by : NameEnvironment → ℕ → Name → Kind → Reads StatementTree
 labelled_by t d n k.Colon = skip (done (named_label n))
 labelled_by t d n kind =
     if follows_name kind
     then spend 1 (d + 2) (scope (d + 2) (a_rest t (d + 1) 1 (name n)) (λ x. expect k.Semicolon (done (expression_statement (Some x)))))
     else stop
 
-abbrev pub statement_by : Types → ℕ → Place → ℕ → Kind → Reads StatementTree
+abbrev pub statement_by : NameEnvironment → ℕ → Place → ℕ → Kind → Reads StatementTree
 statement_by t d p owed k.OpenBrace = do
   spend owed (d + 1)
   skip
@@ -941,7 +941,7 @@ statement_by t d p owed kind =
       done (declaration x)) else stop)
     else expressed t d owed
 
-abbrev pub statements_by : Types → ℕ → Place → Kind → Reads Statements
+abbrev pub statements_by : NameEnvironment → ℕ → Place → Kind → Reads Statements
 statements_by t d p k.CloseBrace = skip (done no_statements)
 statements_by t d p _ = body.strict (a_statement t d p 1) (λ x. body.call (all_statements t d p) (λ xs. done (statements x xs)))
 
@@ -952,8 +952,8 @@ is_typedef st.Typedef = true
 is_typedef _ = false
 
 -- where names are declared outside functions: the name of a type is new
-abbrev pub outer_types : Storage → Scope → Types
-outer_types st.Typedef s = record { names = s.types; taken = s.others }
+abbrev pub outer_types : Storage → Scope → NameEnvironment
+outer_types st.Typedef s = record { types = s.types; reserved = s.others }
 outer_types _ s = only_types s.types
 
 abbrev pub may_begin : Storage → DeclaratorTree → Bool
@@ -987,7 +987,7 @@ first_by c k.OpenBrace = if is_function c then done c else stop
 first_by c kind = if follows_first c kind then rise (done c) else stop
 
 -- behind the stars and the name of the first declarator: an array is no function, and lies one node deeper
-abbrev pub first_declared_by : Types → Stars → Name → Kind → Reads DeclaratorTree
+abbrev pub first_declared_by : NameEnvironment → Stars → Name → Kind → Reads DeclaratorTree
 first_declared_by t ss n k.OpenBracket = rise (declared_by t 3 false ss n k.OpenBracket)
 first_declared_by t ss n k.OpenParen = do
   skip
@@ -996,7 +996,7 @@ first_declared_by t ss n k.OpenParen = do
 first_declared_by t ss n kind = first_by (plain ss n) kind
 
 -- behind its stars: a pointer to a function is no function either
-abbrev pub first_declarator_by : Types → Stars → Kind → Reads DeclaratorTree
+abbrev pub first_declarator_by : NameEnvironment → Stars → Kind → Reads DeclaratorTree
 first_declarator_by t ss k.Name = take (λ n. look [] (first_declared_by t ss n))
 first_declarator_by t ss k.OpenParen = rise (declarator_by t 3 false false ss k.OpenParen)
 first_declarator_by t ss _ = stop
@@ -1060,21 +1060,21 @@ rule (a_whole t d least owed) = do
   x ← a_prefix t d least owed
   y ← a_rest t d least x
   done y
-rule (a_prefix t d least owed) = look t.names (λ kind. prefix_by t d least owed (first_of_operand kind))
-rule (a_rest t d least x) = look t.names (λ kind. if goes_on least (infix_of kind) (level x) then longer t d least x (infix_of kind) else done x)
+rule (a_prefix t d least owed) = look t.types (λ kind. prefix_by t d least owed (first_of_operand kind))
+rule (a_rest t d least x) = look t.types (λ kind. if goes_on least (infix_of kind) (level x) then longer t d least x (infix_of kind) else done x)
 rule (an_opened t d) = do
   x ← an_expression t (d + 1) 1 2
   expect k.CloseParen
   y ← a_rest t d 15 (paren x)
   done y
 rule more_texts = look [] texts_by
-rule (all_arguments t d) = look t.names (arguments_by t d)
+rule (all_arguments t d) = look t.types (arguments_by t d)
 rule (more_arguments t d) = look [] (more_arguments_by t d)
 rule (a_type t d) = do
   ws ← all_specifiers t d false []
   x ← a_bare t d
   done (typed ws x)
-rule (all_specifiers t d b ws) = look t.names (λ kind. specifiers_by t d b ws (start_of kind))
+rule (all_specifiers t d b ws) = look t.types (λ kind. specifiers_by t d b ws (start_of kind))
 rule (a_struct t d) = look [] (struct_by t d)
 rule (all_members t d) = do
   ws ← all_specifiers t d false []
@@ -1082,7 +1082,7 @@ rule (all_members t d) = do
   expect k.Semicolon
   ms ← more_members t d
   done (member ws cs ms)
-rule (more_members t d) = look t.names (more_members_by t d)
+rule (more_members t d) = look t.types (more_members_by t d)
 rule (all_declarators t d) = do
   c ← a_declarator t (d + 1) false false
   cs ← more_declarators t d
@@ -1098,7 +1098,7 @@ rule (a_declarator t d f y) = do
   look (barred t) (declarator_by t d f y ss)
 rule (all_sizes t d) = look [] (sizes_by t d)
 rule (at_most_one_size t d) = look [] (at_most_one_by t d)
-rule (all_parameters t d) = look t.names (parameters_by t d)
+rule (all_parameters t d) = look t.types (parameters_by t d)
 rule (some_parameters t d) = scope d (a_parameter t d) (λ p. body.call (more_parameters t d) (λ ps. done (parameters p.0 p.1 ps)))
 rule (more_parameters t d) = look [] (more_parameters_by t d)
 rule (a_parameter t d) = do
@@ -1108,21 +1108,21 @@ rule (a_parameter t d) = do
 rule (a_bare t d) = do
   ss ← all_stars
   look [] (bare_by t d ss)
-rule (an_initializer t d owed) = look t.names (initializer_by t d owed)
+rule (an_initializer t d owed) = look t.types (initializer_by t d owed)
 rule (all_initializers t d owed) = look [] (initializers_by t d owed)
 rule (more_initializers t d) = look [] (more_initializers_by t d)
-rule (a_declaration t d) = look t.names (declaration_by t d)
+rule (a_declaration t d) = look t.types (declaration_by t d)
 rule (a_declared t d c) = do
   ws ← all_specifiers t d true []
-  look t.names (declared_names_by t d c ws)
+  look t.types (declared_names_by t d c ws)
 rule (a_named t d) = do
   c ← a_declarator t (d + 1) true false
   look [] (named_init_by t (d + 1) (has_initializer c) c)
 rule (more_named t d) = look [] (more_named_by t d)
 rule (an_optional t d e) = look [] (optional_by t d e)
-rule (a_start t d) = look t.names (start_by t d)
-rule (a_statement t d p owed) = look t.names (statement_by t d p owed)
-rule (all_statements t d p) = look t.names (statements_by t d p)
+rule (a_start t d) = look t.types (start_by t d)
+rule (a_statement t d p owed) = look t.types (statement_by t d p owed)
+rule (all_statements t d p) = look t.types (statements_by t d p)
 rule (an_outer c s) = do
   x ← a_declarator (outer_types c s) 3 true (is_typedef c)
   look [] (named_init_by (outer_types c s) 3 (may_begin c x) x)

@@ -13,7 +13,7 @@ use Rattle.c_grammar.specs.Body as body
 use Rattle.c_grammar.specs.Gauge.{Meter, limited}
 use Rattle.c_grammar.specs.Input.{Input}
 use Rattle.c_grammar.specs.Reading.{read}
-use Rattle.c_grammar.specs.Rules.{Types, Rule, Result, rule, only_types, outer_types, naming, begins_type, begins_declarator, has_initializer, may_begin, more_outer_by, is_function, follows_first, first_by, first_declared_by, first_declarator_by, with_names, item_by, item_names_by, item_specifiers, item_start_by, items_by, an_expression, a_whole, a_prefix, a_rest, an_opened, more_texts, all_arguments, more_arguments, a_type, all_specifiers, a_struct, all_members, more_members, all_declarators, more_declarators, an_enum, all_enumerators, more_enumerators, all_stars, all_quals, a_declarator, all_sizes, at_most_one_size, all_parameters, some_parameters, more_parameters, a_parameter, a_bare, an_initializer, all_initializers, more_initializers, a_declaration, a_declared, a_named, more_named, an_optional, a_start, a_statement, all_statements, an_outer, more_outer, a_first, an_item, all_items}
+use Rattle.c_grammar.specs.Rules.{NameEnvironment, Rule, Result, rule, only_types, outer_types, naming, begins_type, begins_declarator, has_initializer, may_begin, more_outer_by, is_function, follows_first, first_by, first_declared_by, first_declarator_by, with_names, item_by, item_names_by, item_specifiers, item_start_by, items_by, an_expression, a_whole, a_prefix, a_rest, an_opened, more_texts, all_arguments, more_arguments, a_type, all_specifiers, a_struct, all_members, more_members, all_declarators, more_declarators, an_enum, all_enumerators, more_enumerators, all_stars, all_quals, a_declarator, all_sizes, at_most_one_size, all_parameters, some_parameters, more_parameters, a_parameter, a_bare, an_initializer, all_initializers, more_initializers, a_declaration, a_declared, a_named, more_named, an_optional, a_start, a_statement, all_statements, an_outer, more_outer, a_first, an_item, all_items}
 use Rattle.c_grammar.proofs.Conditions.{Goes, all_go, go_done, go_stop, go_look, go_call, go_strict, go_scope, go_if}
 use Rattle.c_grammar.proofs.Limits.{Fits}
 use Rattle.c_grammar.proofs.Sure.{holds_got}
@@ -36,25 +36,25 @@ more-outer-kept : (c : Storage) (s : Scope) → Kept (more_outer c s)
 more-outer-kept c s ts m = go_look (λ e is. more-outer-by c s e ts m)
 
 -- behind the first declarator, where no body follows
-first-else : (t : Types) (c : DeclaratorTree) (e : Kind) (ts us : Tokens) (m n : Meter) → Safe (cond (follows_first c e) (body.rise (done c)) body.stop) (Stays (a_first t) ts m) us n
+first-else : (t : NameEnvironment) (c : DeclaratorTree) (e : Kind) (ts us : Tokens) (m n : Meter) → Safe (cond (follows_first c e) (body.rise (done c)) body.stop) (Stays (a_first t) ts m) us n
 first-else t c e ts us m n = go_if {b = follows_first c e} (λ yes. lifts (λ y g. go_done (λ f. g))) (λ no. go_stop)
 
-first-by : (t : Types) (c : DeclaratorTree) (e : Kind) (ts us : Tokens) (m n : Meter) → (Fits m → Fits n) → Safe (first_by c e) (Stays (a_first t) ts m) us n
+first-by : (t : NameEnvironment) (c : DeclaratorTree) (e : Kind) (ts us : Tokens) (m n : Meter) → (Fits m → Fits n) → Safe (first_by c e) (Stays (a_first t) ts m) us n
 first-by t c k.OpenBrace ts us m n h = go_if {b = is_function c} (λ yes. go_done h) (λ no. go_stop)
 first-by t c e ts us m n h = first-else t c e ts us m n
 
-first-declared-by : (t : Types) (ss : Stars) (a : Name) (e : Kind) (ts us : Tokens) (m n : Meter) → (Fits m → Fits n) → Safe (first_declared_by t ss a e) (Stays (a_first t) ts m) us n
+first-declared-by : (t : NameEnvironment) (ss : Stars) (a : Name) (e : Kind) (ts us : Tokens) (m n : Meter) → (Fits m → Fits n) → Safe (first_declared_by t ss a e) (Stays (a_first t) ts m) us n
 first-declared-by t ss a k.OpenBracket ts us m n h = lifts (λ y g. go_call (λ xs vs o p. go_done (λ f. p g)))
 first-declared-by t ss a k.OpenParen ts us m n h =
     skips (λ _ vs. go_call (λ ps ws o p. go_look (λ e is. first-by t (function ss a ps.0 ps.1) e ts ws m o (λ f. p (omega arith) (h f)))))
 first-declared-by t ss a e ts us m n h = first-by t (plain ss a) e ts us m n h
 
-first-declarator-by : (t : Types) (ss : Stars) (e : Kind) (ts us : Tokens) (m n : Meter) → (Fits m → Fits n) → Safe (first_declarator_by t ss e) (Stays (a_first t) ts m) us n
+first-declarator-by : (t : NameEnvironment) (ss : Stars) (e : Kind) (ts us : Tokens) (m n : Meter) → (Fits m → Fits n) → Safe (first_declarator_by t ss e) (Stays (a_first t) ts m) us n
 first-declarator-by t ss k.Name ts us m n h = skips (λ a vs. go_look (λ e is. first-declared-by t ss a e ts vs m n h))
 first-declarator-by t ss k.OpenParen ts us m n h = lifts (λ y g. declarator-by t 3 false false ss k.OpenParen us y _ (λ x vs o p f. p (omega arith) g))
 first-declarator-by t ss _ ts us m n h = go_stop
 
-first-kept : (t : Types) → Kept (a_first t)
+first-kept : (t : NameEnvironment) → Kept (a_first t)
 first-kept t ts m = go_call (λ ss us n p. go_look (λ e is. first-declarator-by t ss e ts us m n p))
 
 with-names : (c : Storage) (ws : Specifiers) (s : Scope) (x : NamedTree) (ts us : Tokens) (m n : Meter) → Fits n → Safe (with_names c ws s x) (Stays (an_item s) ts m) us n

@@ -7,11 +7,11 @@ use Rattle.c_grammar.specs.Gauge.{Meter, within, added}
 use Rattle.c_grammar.specs.Kind.{kind, head_text}
 use Rattle.c_grammar.specs.Input.{Input, next, metered}
 use Rattle.c_grammar.specs.Reading.{read}
-use Rattle.c_grammar.specs.Rules.{Types, a_prefix, an_expression, more_texts, prefix_by, first_of_operand, First, no_operand, a_word, a_number, a_character, a_text, an_open, a_sizeof, a_step, a_unary}
+use Rattle.c_grammar.specs.Rules.{NameEnvironment, a_prefix, an_expression, more_texts, prefix_by, first_of_operand, First, no_operand, a_word, a_number, a_character, a_text, an_open, a_sizeof, a_step, a_unary}
 use Rattle.expression_parser.specs.Beginning.{begun}
-use Rattle.expression_parser.specs.Lists.{mapped}
-use Rattle.expression_parser.specs.Performing.{perform}
-use Rattle.expression_parser.proofs.Opens.{prefix_performs}
+use Rattle.c_grammar.specs.Lists.{mapped}
+use Rattle.c_grammar.specs.Performing.{perform}
+use Rattle.c_grammar.proofs.Opens.{prefix_performs}
 
 paid_mapped : {A B : Type 0} (g : A → B) (o : Option Meter) (ts : Tokens) (f : Meter → Outcome Meter B) (h : Meter → Outcome Meter A) →
     ((m : Meter) → f m ≡ mapped g (h m)) → and_paid o ts f ≡ mapped g (and_paid o ts h)
@@ -23,7 +23,7 @@ tail_twice g h (got v us m) = refl
 tail_twice g h (refused us) = refl
 tail_twice g h (exceeded us) = refl
 
-begins : (t : Types) (d least owed : ℕ) (f : First) (i : Input) → perform (prefix_by t d least owed f) i ≡ begun t d least owed f i
+begins : (t : NameEnvironment) (d least owed : ℕ) (f : First) (i : Input) → perform (prefix_by t d least owed f) i ≡ begun t d least owed f i
 begins t d least owed no_operand i = refl
 begins t d least owed a_word i = paid_mapped (λ n. name n) (within (added owed (d + 1) i.meter)) i.rest _ _ (λ m. refl)
 begins t d least owed a_number i = paid_mapped (λ n. integer n) (within (added owed (d + 1) i.meter)) i.rest _ _ (λ m. refl)
@@ -37,5 +37,5 @@ begins t d least owed (a_step o) i =
 begins t d least owed (a_unary o) i =
     paid_mapped (unary o) (within (added (owed + 1) (d + 2) i.meter)) i.rest _ _ (λ m. tail_twice (unary o) (λ x. x) (read (an_expression t (d + 1) 14 0) (next (metered m i))))
 
-pub prefix_begins : (t : Types) (d least owed : ℕ) (i : Input) → read (a_prefix t d least owed) i ≡ begun t d least owed (first_of_operand (kind t.names i.rest)) i
-prefix_begins t d least owed i = prefix_performs t d least owed i ∙ begins t d least owed (first_of_operand (kind t.names i.rest)) i
+pub prefix_begins : (t : NameEnvironment) (d least owed : ℕ) (i : Input) → read (a_prefix t d least owed) i ≡ begun t d least owed (first_of_operand (kind t.types i.rest)) i
+prefix_begins t d least owed i = prefix_performs t d least owed i ∙ begins t d least owed (first_of_operand (kind t.types i.rest)) i

@@ -11,18 +11,18 @@ use Rattle.c_grammar.specs.Body as body
 use Rattle.c_grammar.specs.Gauge.{Meter}
 use Rattle.c_grammar.specs.Input.{Input, next}
 use Rattle.c_grammar.specs.Reading.{read}
-use Rattle.c_grammar.specs.Rules.{Types, more_texts, texts_by, more_arguments, more_arguments_by, all_arguments, arguments_by, an_expression}
+use Rattle.c_grammar.specs.Rules.{NameEnvironment, more_texts, texts_by, more_arguments, more_arguments_by, all_arguments, arguments_by, an_expression}
 use Rattle.c_grammar.proofs.KindLemmas.{kind_end, same_true, same_false}
-use Rattle.expression_parser.specs.declared.refusal.Refusal.{Refusal}
-use Rattle.expression_parser.specs.declared.refusal.Refusal.TheVariants.{Syntax}
+use Rattle.c_grammar.specs.declared.refusal.Refusal.{Refusal}
+use Rattle.c_grammar.specs.declared.refusal.Refusal.TheVariants.{Syntax}
 use Rattle.expression_parser.specs.Extending.{another}
-use Rattle.expression_parser.specs.Gives.{Fails}
-use Rattle.expression_parser.specs.Lists.{mapped, before}
-use Rattle.expression_parser.specs.Performing.{perform, at}
-use Rattle.expression_parser.proofs.Joining.{tail_mapped, same_mapped, Joins, join_spend, join_skip, join_call, then_fails, spent_taken, Leaving}
-use Rattle.expression_parser.proofs.Loops.{Turn}
-use Rattle.expression_parser.proofs.Opens.{more_texts_performs, more_arguments_performs, arguments_performs}
-use Rattle.expression_parser.proofs.Shorter.{Leaves}
+use Rattle.c_grammar.specs.Gives.{Fails}
+use Rattle.c_grammar.specs.Lists.{mapped, before}
+use Rattle.c_grammar.specs.Performing.{perform, at}
+use Rattle.c_grammar.proofs.Joining.{tail_mapped, same_mapped, Joins, join_spend, join_skip, join_call, then_fails, spent_taken, Leaving}
+use Rattle.c_grammar.proofs.Loops.{Turn}
+use Rattle.c_grammar.proofs.Opens.{more_texts_performs, more_arguments_performs, arguments_performs}
+use Rattle.c_grammar.proofs.Shorter.{Leaves}
 
 -- a token of a kind of its own is gone once it is taken
 taken_tail : (ts : Tokens) (x : Kind) → same_kind (kind [] ts) x ≡ true → x ≢ k.Nothing → length (tail_of ts) < length ts
@@ -53,7 +53,7 @@ texts_shorter i j is go = subst (λ z. length z.rest < length i.rest) (sym go) (
 
 -- ---- arguments
 
-module _ (t : Types) (d : ℕ) where
+module _ (t : NameEnvironment) (d : ℕ) where
   abbrev others : Expression → Reader Meter Expressions
   others x us m = mapped (expressions x) (read (more_arguments t d) (at us m))
 
@@ -96,12 +96,12 @@ module _ (t : Types) (d : ℕ) where
       let f : Fails {B = Expressions} (refused i.rest) (Syntax (length i.rest)) = record { says = refl } in
       subst (λ o. Fails o e) (sym h) (subst (λ r. Fails {B = Expressions} (refused i.rest) r) (sym is) f)
 
-arguments_some : (t : Types) (d : ℕ) (x : Kind) → x ≢ k.CloseParen → arguments_by t d x ≡ body.call (an_expression t d 2 1) (λ y. body.call (more_arguments t d) (λ ys. done (expressions y ys)))
+arguments_some : (t : NameEnvironment) (d : ℕ) (x : Kind) → x ≢ k.CloseParen → arguments_by t d x ≡ body.call (an_expression t d 2 1) (λ y. body.call (more_arguments t d) (λ ys. done (expressions y ys)))
 arguments_some t d k.CloseParen other = absurd (other refl)
 arguments_some t d _ other = refl
 
 -- the first argument, and the others
-pub arguments_first : (t : Types) (d : ℕ) (i j : Input) (y : Expression) (x : Kind) → x ≡ kind t.names i.rest → x ≢ k.CloseParen → read (an_expression t d 2 1) i ≡ got y j.rest j.meter →
+pub arguments_first : (t : NameEnvironment) (d : ℕ) (i j : Input) (y : Expression) (x : Kind) → x ≡ kind t.types i.rest → x ≢ k.CloseParen → read (an_expression t d 2 1) i ≡ got y j.rest j.meter →
     read (all_arguments t d) i ≡ mapped (expressions y) (read (more_arguments t d) j)
 arguments_first t d i j y x is other e =
     arguments_performs t d i

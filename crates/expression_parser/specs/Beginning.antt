@@ -6,9 +6,9 @@ use Rattle.c_grammar.specs.Body.{done, look, take, spend, Outcome, refused}
 use Rattle.c_grammar.specs.Body as body
 use Rattle.c_grammar.specs.Gauge.{Meter}
 use Rattle.c_grammar.specs.Input.{Input}
-use Rattle.c_grammar.specs.Rules.{Types, Reads, skip, expect, an_expression, a_type, more_texts, opened_by, sizeof_by, First, no_operand, a_word, a_number, a_character, a_text, an_open, a_sizeof, a_step, a_unary}
-use Rattle.expression_parser.specs.Lists.{mapped}
-use Rattle.expression_parser.specs.Performing.{perform}
+use Rattle.c_grammar.specs.Rules.{NameEnvironment, Reads, skip, expect, an_expression, a_type, more_texts, opened_by, sizeof_by, First, no_operand, a_word, a_number, a_character, a_text, an_open, a_sizeof, a_step, a_unary}
+use Rattle.c_grammar.specs.Lists.{mapped}
+use Rattle.c_grammar.specs.Performing.{perform}
 
 -- one word
 abbrev pub leaf : ℕ → ℕ → Reads Name
@@ -19,30 +19,30 @@ abbrev pub words : ℕ → ℕ → Reads (List Name)
 words d owed = spend owed (d + 1) (take (λ n. body.call more_texts (λ ns. done (n ∷ ns))))
 
 -- an operator, and the operand behind it
-abbrev pub operand : Types → ℕ → ℕ → ℕ → Reads Expression
+abbrev pub operand : NameEnvironment → ℕ → ℕ → ℕ → Reads Expression
 operand t d owed least = spend (owed + 1) (d + 2) (skip (body.call (an_expression t (d + 1) least 0) done))
 
 -- a type that ends a bracket, and the operand that is turned to it
-abbrev pub turned : Types → ℕ → Reads Expression
+abbrev pub turned : NameEnvironment → ℕ → Reads Expression
 turned t d = body.call (a_type t (d + 1)) (λ y. expect k.CloseParen (body.call (an_expression t (d + 1) 14 0) (λ x. done (cast y x))))
 
 -- an expression that ends a bracket
-abbrev pub closed : Types → ℕ → Reads Expression
+abbrev pub closed : NameEnvironment → ℕ → Reads Expression
 closed t d = body.call (an_expression t (d + 1) 1 0) (λ x. expect k.CloseParen (done (paren x)))
 
 -- an open bracket, and what it holds
-abbrev pub bracketed : Types → ℕ → ℕ → ℕ → Reads Expression
-bracketed t d owed least = spend (owed + 1) (d + 2) (skip (look t.names (opened_by t d least)))
+abbrev pub bracketed : NameEnvironment → ℕ → ℕ → ℕ → Reads Expression
+bracketed t d owed least = spend (owed + 1) (d + 2) (skip (look t.types (opened_by t d least)))
 
 -- a type that ends the bracket behind sizeof
-abbrev pub type_sized : Types → ℕ → Reads Expression
+abbrev pub type_sized : NameEnvironment → ℕ → Reads Expression
 type_sized t d = body.call (a_type t (d + 1)) (λ y. expect k.CloseParen (done (size_of_type y)))
 
 -- sizeof, and what is behind it
-abbrev pub size_of : Types → ℕ → ℕ → Reads Expression
-size_of t d owed = spend owed (d + 1) (skip (look t.names (sizeof_by t d)))
+abbrev pub size_of : NameEnvironment → ℕ → ℕ → Reads Expression
+size_of t d owed = spend owed (d + 1) (skip (look t.types (sizeof_by t d)))
 
-abbrev pub begun : Types → ℕ → ℕ → ℕ → First → Input → Outcome Meter Expression
+abbrev pub begun : NameEnvironment → ℕ → ℕ → ℕ → First → Input → Outcome Meter Expression
 begun t d least owed no_operand i = refused i.rest
 begun t d least owed a_word i = mapped (λ n. name n) (perform (leaf d owed) i)
 begun t d least owed a_number i = mapped (λ n. integer n) (perform (leaf d owed) i)

@@ -7,31 +7,31 @@ use Rattle.c_grammar.specs.Body.{done, spend, rise, Outcome, got}
 use Rattle.c_grammar.specs.Body as body
 use Rattle.c_grammar.specs.Gauge.{Meter}
 use Rattle.c_grammar.specs.Input.{Input}
-use Rattle.c_grammar.specs.Rules.{Types, Reads, skip, expect, a_name, an_expression, all_arguments, Infix, no_infix, a_comma, an_assign, a_question, an_operator, an_index, a_call, a_dot, an_arrow, a_step_behind}
-use Rattle.expression_parser.specs.Lists.{mapped}
-use Rattle.expression_parser.specs.Performing.{perform}
+use Rattle.c_grammar.specs.Rules.{NameEnvironment, Reads, skip, expect, a_name, an_expression, all_arguments, Infix, no_infix, a_comma, an_assign, a_question, an_operator, an_index, a_call, a_dot, an_arrow, a_step_behind}
+use Rattle.c_grammar.specs.Lists.{mapped}
+use Rattle.c_grammar.specs.Performing.{perform}
 
 -- an operator, and its right operand
-abbrev pub right_operand : Types → ℕ → ℕ → Reads Expression
+abbrev pub right_operand : NameEnvironment → ℕ → ℕ → Reads Expression
 right_operand t d least = rise (spend 2 (d + 2) (skip (body.call (an_expression t (d + 1) least 0) done)))
 
 -- both choices
-abbrev pub choices : Types → ℕ → Reads (Expression × Expression)
+abbrev pub choices : NameEnvironment → ℕ → Reads (Expression × Expression)
 choices t d = rise (spend 3 (d + 2) (skip (body.call (an_expression t (d + 1) 1 0) (λ y. expect k.Colon (body.call (an_expression t (d + 1) 3 0) (λ w. done (y, w)))))))
 
-abbrev pub subscript : Types → ℕ → Reads Expression
+abbrev pub subscript : NameEnvironment → ℕ → Reads Expression
 subscript t d = rise (spend 2 (d + 2) (skip (body.call (an_expression t (d + 1) 1 0) (λ y. expect k.CloseBracket (done y)))))
 
-abbrev pub arguments : Types → ℕ → Reads Expressions
+abbrev pub arguments : NameEnvironment → ℕ → Reads Expressions
 arguments t d = rise (spend 1 (d + 1) (skip (body.call (all_arguments t (d + 1)) done)))
 
-abbrev pub member_name : Types → ℕ → Reads Name
+abbrev pub member_name : NameEnvironment → ℕ → Reads Name
 member_name t d = rise (spend 1 (d + 1) (skip (a_name t done)))
 
 abbrev pub stepped : ℕ → Reads (Unit {0})
 stepped d = rise (spend 1 (d + 1) (skip (done tt)))
 
-abbrev pub extended : Types → ℕ → Expression → Infix → Input → Outcome Meter Expression
+abbrev pub extended : NameEnvironment → ℕ → Expression → Infix → Input → Outcome Meter Expression
 extended t d x no_infix i = got x i.rest i.meter
 extended t d x a_comma i = mapped (comma x) (perform (right_operand t d 2) i)
 extended t d x (an_assign o) i = mapped (assign o x) (perform (right_operand t d 2) i)
@@ -44,5 +44,5 @@ extended t d x an_arrow i = mapped (arrow x) (perform (member_name t d) i)
 extended t d x (a_step_behind o) i = mapped (λ u. after o x) (perform (stepped d) i)
 
 -- one more argument, behind a comma
-abbrev pub another : Types → ℕ → Reads Expression
+abbrev pub another : NameEnvironment → ℕ → Reads Expression
 another t d = spend 1 (d + 1) (skip (body.call (an_expression t d 2 0) done))

@@ -1,8 +1,4 @@
-pub mod Gives
-pub mod Stepping
-pub mod Lists
 pub mod Pointers
-pub mod Performing
 pub mod Nests
 pub mod Infixes
 pub mod Extending

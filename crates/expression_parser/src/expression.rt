@@ -8,18 +8,17 @@ ghost use Rattle.c_grammar.specs.Reading.{read};
 ghost use Rattle.c_grammar.specs.Rules.{an_expression, a_whole, a_prefix, a_rest, an_opened, more_texts, all_arguments, more_arguments, sized_by};
 ghost use Rattle.expression_parser.specs.Beginning.{leaf, words, operand, turned, closed, bracketed, type_sized, size_of};
 ghost use Rattle.expression_parser.specs.Extending.{extended, right_operand, choices, subscript, arguments, another, member_name, stepped};
-ghost use Rattle.expression_parser.specs.Gives.{Gives};
+ghost use Rattle.c_grammar.specs.Gives.{Gives};
 ghost use Rattle.expression_parser.specs.Infixes.{view_infix};
-ghost use Rattle.expression_parser.specs.Lists.{mapped};
+ghost use Rattle.c_grammar.specs.Lists.{mapped};
 ghost use Rattle.expression_parser.specs.Nests.{Nests};
-ghost use Rattle.expression_parser.specs.Performing.{perform};
+ghost use Rattle.c_grammar.specs.Performing.{perform};
 
-use crate::grammar::{Found, Grammar, Nested, Types};
+use crate::grammar::{Found, Grammar, Nested};
 use crate::infix::{First, Infix, begins_type, first_of_operand, infix_behind, level, op_level};
-use crate::refusal::Refusal;
-use crate::steps::{expect, kind, name, refused, rise, spend, word};
 use base_core::Lexeme;
-use c_grammar::{Cursor, Kind, same_kind};
+use c_grammar::steps::{expect, kind, name, refused, rise, spend, word};
+use c_grammar::{Cursor, Kind, NameEnvironment, Refusal, same_kind};
 use c_tree::{Expr, StepOp};
 use sqlite_items::{Boxed, Items};
 use std::alloc::Global;
@@ -62,7 +61,14 @@ fn words(
 }
 
 impl<
-    F: Fn(Global, &Types<'_>, &mut Cursor<'_>, usize, u32, Nested) -> Result<Found, Refusal>,
+    F: Fn(
+        Global,
+        &NameEnvironment<'_>,
+        &mut Cursor<'_>,
+        usize,
+        u32,
+        Nested,
+    ) -> Result<Found, Refusal>,
 > Grammar<'_, F> {
     /// An operator, and its right operand.
     fn right_operand(
@@ -142,7 +148,7 @@ impl<
     }
 
     /// Arguments with the closing bracket.
-    #[tactic(auto, using(crate::proofs::Opens::arguments_performs))]
+    #[tactic(auto, using(c_grammar::proofs::Opens::arguments_performs))]
     fn all_arguments(&self, cursor: &mut Cursor<'_>, d: u32) -> Result<Items<Expr>, Refusal>
         requires nests { Nests self.now.budget (F.pre self.now.read) (F.post self.now.read) }
         requires small { d ≤ 1001 }
@@ -304,7 +310,7 @@ impl<
     }
 
     /// The operand of `sizeof` that begins with a bracket, which was read.
-    #[tactic(auto, using(crate::proofs::Opens::opened_performs, c_tree::proofs::ViewLemmas::view_Expr_Paren))]
+    #[tactic(auto, using(c_grammar::proofs::Opens::opened_performs, c_tree::proofs::ViewLemmas::view_Expr_Paren))]
     fn opened(&self, cursor: &mut Cursor<'_>, d: u32) -> Result<Boxed<Expr>, Refusal>
         requires nests { Nests self.now.budget (F.pre self.now.read) (F.post self.now.read) }
         requires small { d ≤ 1000 }
@@ -380,7 +386,7 @@ impl<
     fn sized(&self, cursor: &mut Cursor<'_>, d: u32) -> Result<Boxed<Expr>, Refusal>
         requires nests { Nests self.now.budget (F.pre self.now.read) (F.post self.now.read) }
         requires small { d ≤ 999 }
-        ensures { Gives view_expression (perform (look self.now.types.now.names (sized_by self.now.types.now d)) cursor.old) result cursor.new }
+        ensures { Gives view_expression (perform (look self.now.types.now.types (sized_by self.now.types.now d)) cursor.old) result cursor.new }
     {
         if begins_type(kind(self.types, cursor)) {
             self.type_sized(cursor, d)
@@ -462,7 +468,7 @@ impl<
     }
 
     /// An operand and what is behind it.
-    #[tactic(auto, using(crate::proofs::Opens::whole_performs))]
+    #[tactic(auto, using(c_grammar::proofs::Opens::whole_performs))]
     fn whole(
         &self,
         cursor: &mut Cursor<'_>,
@@ -480,7 +486,7 @@ impl<
     }
 
     /// An expression of at least this level, whose first token makes so many nodes necessary besides its own.
-    #[tactic(auto, using(crate::proofs::Opens::expression_performs))]
+    #[tactic(auto, using(c_grammar::proofs::Opens::expression_performs))]
     pub fn level(
         &self,
         cursor: &mut Cursor<'_>,

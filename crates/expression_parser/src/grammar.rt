@@ -4,56 +4,13 @@ ghost use Rattle.std.specs.Prelude.{◌≡◌, ◌≤◌, map};
 ghost use Rattle.c_tree.specs.View.{view_expression, view_type, view_member, view_parameters, members_of};
 ghost use Rattle.c_grammar.specs.Reading.{read};
 ghost use Rattle.c_grammar.specs.Rules.{an_expression, a_type, all_members, all_parameters};
-ghost use Rattle.expression_parser.specs.Gives.{Gives};
+ghost use Rattle.c_grammar.specs.Gives.{Gives};
 ghost use Rattle.expression_parser.specs.Nests.{Nests};
 
-use crate::refusal::Refusal;
-use c_grammar::Cursor;
+use c_grammar::{Cursor, NameEnvironment, Refusal};
 use c_tree::{Expr, Member, Params, TypeName};
-use program_scope::Names;
 use sqlite_items::{Boxed, Items};
 use std::alloc::Global;
-use std::marker::Model;
-
-/// The names that matter where a token is read.
-#[derive(Drop)]
-pub struct Types<'a> {
-    /// Those that are types.
-    names: &'a Names,
-    /// Those that may be used there, but not be declared.
-    taken: &'a Names,
-}
-
-impl<'a> Model for Types<'a> {
-    ghost use Rattle.c_grammar.specs.Rules as rules;
-
-    ghost Value = { rules.Types };
-
-    ghost view = { λ t. record { names = t.names.now; taken = t.taken.now } };
-}
-
-impl<'a> Types<'a> {
-    /// These names are types, and these are taken.
-    pub fn new(names: &'a Names, taken: &'a Names) -> Self
-        ensures { result ≡ record { names = names.now; taken = taken.now } }
-    {
-        Types { names, taken }
-    }
-
-    /// The names that are types.
-    pub fn names(&self) -> &'a Names
-        ensures { result.now ≡ self.now.names }
-    {
-        self.names
-    }
-
-    /// The names that are taken.
-    pub fn taken(&self) -> &'a Names
-        ensures { result.now ≡ self.now.taken }
-    {
-        self.taken
-    }
-}
 
 /// What may hold others of its kind.
 #[derive(Clone, Copy)]
@@ -76,15 +33,22 @@ pub enum Found {
 #[derive(Drop)]
 pub struct Grammar<'a, F> {
     pub alloc: Global,
-    /// The names that are types, and those that are taken.
-    pub types: &'a Types<'a>,
+    /// The names that are types, and those that are reserved.
+    pub types: &'a NameEnvironment<'a>,
     /// How often what nests may still nest.
     pub budget: usize,
     pub read: F,
 }
 
 impl<
-    F: Fn(Global, &Types<'_>, &mut Cursor<'_>, usize, u32, Nested) -> Result<Found, Refusal>,
+    F: Fn(
+        Global,
+        &NameEnvironment<'_>,
+        &mut Cursor<'_>,
+        usize,
+        u32,
+        Nested,
+    ) -> Result<Found, Refusal>,
 > Grammar<'_, F> {
     /// An expression of at least this level.
     pub fn expression(

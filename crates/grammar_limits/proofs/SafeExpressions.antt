@@ -4,27 +4,27 @@ use Rattle.c_tree.specs.Tree.{Expression}
 use Rattle.c_tree.specs.ExpressionShape.{level}
 use Rattle.c_grammar.specs.declared.kind.Kind.{Kind}
 use Rattle.c_grammar.specs.declared.kind.Kind.TheVariants as k
-use Rattle.c_grammar.specs.Rules.{Types, First, no_operand, a_word, a_number, a_character, a_text, an_open, a_sizeof, a_step, a_unary, first_of_operand, Infix, no_infix, a_comma, an_assign, a_question, an_operator, an_index, a_call, a_dot, an_arrow, a_step_behind, infix_of, goes_on, begins_type, opened_by, sizeof_by, prefix_by, longer, texts_by, arguments_by, more_arguments_by, an_expression, a_whole, a_prefix, a_rest, an_opened, more_texts, all_arguments, more_arguments}
+use Rattle.c_grammar.specs.Rules.{NameEnvironment, First, no_operand, a_word, a_number, a_character, a_text, an_open, a_sizeof, a_step, a_unary, first_of_operand, Infix, no_infix, a_comma, an_assign, a_question, an_operator, an_index, a_call, a_dot, an_arrow, a_step_behind, infix_of, goes_on, begins_type, opened_by, sizeof_by, prefix_by, longer, texts_by, arguments_by, more_arguments_by, an_expression, a_whole, a_prefix, a_rest, an_opened, more_texts, all_arguments, more_arguments}
 use Rattle.grammar_limits.proofs.Dues.{Safe, Due, safe_done, safe_stop, safe_look, safe_take, safe_spend, safe_rise, safe_call, safe_scope, safe_if, safe_expect, safe_name}
 
 -- an expression
-pub expression-due : (t : Types) (d l o : ℕ) → Due (an_expression t d l o)
+pub expression-due : (t : NameEnvironment) (d l o : ℕ) → Due (an_expression t d l o)
 expression-due t d l o low = safe_scope (omega arith) (omega arith) (omega arith) (omega arith) (omega arith) (λ _. safe_done (omega arith) (omega arith))
 
-pub whole-due : (t : Types) (d l o : ℕ) → Due (a_whole t d l o)
+pub whole-due : (t : NameEnvironment) (d l o : ℕ) → Due (a_whole t d l o)
 whole-due t d l o low = safe_call (omega arith) (omega arith) (omega arith) (omega arith) (λ _. safe_call (omega arith) (omega arith) (omega arith) (omega arith) (λ _. safe_done (omega arith) (omega arith)))
 
 -- behind sizeof
-sizeof_safe : (t : Types) (d u c : ℕ) (e : Kind) → d + 21 ≤ u → 30 ≤ c → Safe (sizeof_by t d e) 10 0 u c 0
+sizeof_safe : (t : NameEnvironment) (d u c : ℕ) (e : Kind) → d + 21 ≤ u → 30 ≤ c → Safe (sizeof_by t d e) 10 0 u c 0
 sizeof_safe t d u c k.OpenParen room h = safe_take (λ _. safe_look (λ j. safe_if (begins_type j) (safe_call (omega arith) (omega arith) (omega arith) (omega arith) (λ _. safe_expect k.CloseParen (safe_done (omega arith) (omega arith)))) (safe_scope (omega arith) (omega arith) (omega arith) (omega arith) (omega arith) (λ _. safe_done (omega arith) (omega arith)))))
 sizeof_safe t d u c _ room h = safe_call (omega arith) (omega arith) (omega arith) (omega arith) (λ _. safe_done (omega arith) (omega arith))
 
 -- in brackets
-opened_safe : (t : Types) (d l u c : ℕ) (e : Kind) → d + 21 ≤ u → 30 ≤ c → Safe (opened_by t d l e) 10 0 u c 0
+opened_safe : (t : NameEnvironment) (d l u c : ℕ) (e : Kind) → d + 21 ≤ u → 30 ≤ c → Safe (opened_by t d l e) 10 0 u c 0
 opened_safe t d l u c e room h = safe_if (begins_type e && nat_le l 14) (safe_call (omega arith) (omega arith) (omega arith) (omega arith) (λ _. safe_expect k.CloseParen (safe_call (omega arith) (omega arith) (omega arith) (omega arith) (λ _. safe_done (omega arith) (omega arith))))) (safe_call (omega arith) (omega arith) (omega arith) (omega arith) (λ _. safe_expect k.CloseParen (safe_done (omega arith) (omega arith))))
 
 -- by the first token of an operand
-prefix-by : (t : Types) (d l o : ℕ) (f : First) → o ≤ 5 → Safe (prefix_by t d l o f) 10 0 (d + 20) 10 0
+prefix-by : (t : NameEnvironment) (d l o : ℕ) (f : First) → o ≤ 5 → Safe (prefix_by t d l o f) 10 0 (d + 20) 10 0
 prefix-by t d l o no_operand low = safe_stop
 prefix-by t d l o a_word low = safe_spend (omega arith) (omega arith) (safe_take (λ _. safe_done (omega arith) (omega arith)))
 prefix-by t d l o a_number low = safe_spend (omega arith) (omega arith) (safe_take (λ _. safe_done (omega arith) (omega arith)))
@@ -35,11 +35,11 @@ prefix-by t d l o a_sizeof low = safe_spend (omega arith) (omega arith) (safe_ta
 prefix-by t d l o (a_step x) low = safe_spend (omega arith) (omega arith) (safe_take (λ _. safe_call (omega arith) (omega arith) (omega arith) (omega arith) (λ _. safe_done (omega arith) (omega arith))))
 prefix-by t d l o (a_unary x) low = safe_spend (omega arith) (omega arith) (safe_take (λ _. safe_call (omega arith) (omega arith) (omega arith) (omega arith) (λ _. safe_done (omega arith) (omega arith))))
 
-pub prefix-due : (t : Types) (d l o : ℕ) → Due (a_prefix t d l o)
+pub prefix-due : (t : NameEnvironment) (d l o : ℕ) → Due (a_prefix t d l o)
 prefix-due t d l o low = safe_look (λ e. prefix-by t d l o (first_of_operand e) low)
 
 -- how an expression goes on
-longer-by : (t : Types) (d l : ℕ) (x : Expression) (i : Infix) → Safe (longer t d l x i) 10 0 (d + 20) 10 0
+longer-by : (t : NameEnvironment) (d l : ℕ) (x : Expression) (i : Infix) → Safe (longer t d l x i) 10 0 (d + 20) 10 0
 longer-by t d l x no_infix = safe_done (omega arith) (omega arith)
 longer-by t d l x a_comma = safe_rise (omega arith) (safe_spend (omega arith) (omega arith) (safe_take (λ _. safe_call (omega arith) (omega arith) (omega arith) (omega arith) (λ _. safe_call (omega arith) (omega arith) (omega arith) (omega arith) (λ _. safe_done (omega arith) (omega arith))))))
 longer-by t d l x (an_assign o) = safe_rise (omega arith) (safe_spend (omega arith) (omega arith) (safe_take (λ _. safe_call (omega arith) (omega arith) (omega arith) (omega arith) (λ _. safe_call (omega arith) (omega arith) (omega arith) (omega arith) (λ _. safe_done (omega arith) (omega arith))))))
@@ -51,11 +51,11 @@ longer-by t d l x a_dot = safe_rise (omega arith) (safe_spend (omega arith) (ome
 longer-by t d l x an_arrow = safe_rise (omega arith) (safe_spend (omega arith) (omega arith) (safe_take (λ _. safe_name (λ _. safe_call (omega arith) (omega arith) (omega arith) (omega arith) (λ _. safe_done (omega arith) (omega arith))))))
 longer-by t d l x (a_step_behind o) = safe_rise (omega arith) (safe_spend (omega arith) (omega arith) (safe_take (λ _. safe_call (omega arith) (omega arith) (omega arith) (omega arith) (λ _. safe_done (omega arith) (omega arith)))))
 
-pub rest-due : (t : Types) (d l : ℕ) (x : Expression) → Due (a_rest t d l x)
+pub rest-due : (t : NameEnvironment) (d l : ℕ) (x : Expression) → Due (a_rest t d l x)
 rest-due t d l x low = safe_look (λ e. safe_if (goes_on l (infix_of e) (level x)) (longer-by t d l x (infix_of e)) (safe_done (omega arith) (omega arith)))
 
 -- the operand of sizeof in a bracket
-pub opened-due : (t : Types) (d : ℕ) → Due (an_opened t d)
+pub opened-due : (t : NameEnvironment) (d : ℕ) → Due (an_opened t d)
 opened-due t d low = safe_call (omega arith) (omega arith) (omega arith) (omega arith) (λ _. safe_expect k.CloseParen (safe_call (omega arith) (omega arith) (omega arith) (omega arith) (λ _. safe_done (omega arith) (omega arith))))
 
 texts-by : (e : Kind) → Safe (texts_by e) 10 0 20 10 0
@@ -65,18 +65,18 @@ texts-by _ = safe_done (omega arith) (omega arith)
 pub texts-due : Due more_texts
 texts-due low = safe_look (λ e. texts-by e)
 
-arguments-by : (t : Types) (d : ℕ) (e : Kind) → Safe (arguments_by t d e) 10 0 (d + 20) 10 0
+arguments-by : (t : NameEnvironment) (d : ℕ) (e : Kind) → Safe (arguments_by t d e) 10 0 (d + 20) 10 0
 arguments-by t d k.CloseParen = safe_take (λ _. safe_done (omega arith) (omega arith))
 arguments-by t d _ = safe_call (omega arith) (omega arith) (omega arith) (omega arith) (λ _. safe_call (omega arith) (omega arith) (omega arith) (omega arith) (λ _. safe_done (omega arith) (omega arith)))
 
 -- arguments
-pub arguments-due : (t : Types) (d : ℕ) → Due (all_arguments t d)
+pub arguments-due : (t : NameEnvironment) (d : ℕ) → Due (all_arguments t d)
 arguments-due t d low = safe_look (λ e. arguments-by t d e)
 
-more-arguments-by : (t : Types) (d : ℕ) (e : Kind) → Safe (more_arguments_by t d e) 10 0 (d + 20) 10 0
+more-arguments-by : (t : NameEnvironment) (d : ℕ) (e : Kind) → Safe (more_arguments_by t d e) 10 0 (d + 20) 10 0
 more-arguments-by t d k.CloseParen = safe_take (λ _. safe_done (omega arith) (omega arith))
 more-arguments-by t d k.Comma = safe_spend (omega arith) (omega arith) (safe_take (λ _. safe_call (omega arith) (omega arith) (omega arith) (omega arith) (λ _. safe_call (omega arith) (omega arith) (omega arith) (omega arith) (λ _. safe_done (omega arith) (omega arith)))))
 more-arguments-by t d _ = safe_stop
 
-pub more-arguments-due : (t : Types) (d : ℕ) → Due (more_arguments t d)
+pub more-arguments-due : (t : NameEnvironment) (d : ℕ) → Due (more_arguments t d)
 more-arguments-due t d low = safe_look (λ e. more-arguments-by t d e)

@@ -8,7 +8,7 @@ use Rattle.c_tree.specs.Shape.{Scope, behind_specifiers}
 use Rattle.c_grammar.specs.declared.kind.Kind.{Kind}
 use Rattle.c_grammar.specs.declared.kind.Kind.TheVariants as k
 use Rattle.c_grammar.specs.Body as body
-use Rattle.c_grammar.specs.Rules.{Types, only_types, naming, outer_types, begins_type, begins_declarator, has_initializer, may_begin, more_outer_by, is_function, follows_first, first_by, first_declared_by, first_declarator_by, with_names, item_by, item_names_by, item_specifiers, item_start_by, items_by, an_outer, more_outer, a_first, an_item, all_items}
+use Rattle.c_grammar.specs.Rules.{NameEnvironment, only_types, naming, outer_types, begins_type, begins_declarator, has_initializer, may_begin, more_outer_by, is_function, follows_first, first_by, first_declared_by, first_declarator_by, with_names, item_by, item_names_by, item_specifiers, item_start_by, items_by, an_outer, more_outer, a_first, an_item, all_items}
 use Rattle.grammar_limits.proofs.Dues.{Safe, Due, safe_done, safe_stop, safe_look, safe_take, safe_spend, safe_rise, safe_call, safe_strict, safe_scope, safe_if, safe_naming}
 use Rattle.grammar_limits.proofs.SafeDeclarators.{declared-by, pointer-by}
 use Rattle.grammar_limits.proofs.SafeDeclarations.{named-init-by}
@@ -34,18 +34,18 @@ first-by c u n k.OpenBrace h = safe_if (is_function c) (safe_done (omega arith) 
 first-by c u n e h = rises-first c u n (follows_first c e) h
 
 -- behind the name of the first declarator: behind an array the deepest node may be too deep while its sizes are read
-first-declared-by : (t : Types) (ss : Stars) (n : Name) (e : Kind) → Safe (first_declared_by t ss n e) 10 1 23 110 0
+first-declared-by : (t : NameEnvironment) (ss : Stars) (n : Name) (e : Kind) → Safe (first_declared_by t ss n e) 10 1 23 110 0
 first-declared-by t ss n k.OpenBracket = safe_rise (omega arith) (declared-by t 3 1 23 1 false ss n k.OpenBracket (omega arith) (omega arith))
 first-declared-by t ss n k.OpenParen = safe_take (λ _. safe_call (omega arith) (omega arith) (omega arith) (omega arith) (λ x. safe_look (λ e. first-by (function ss n x.0 x.1) _ _ e (omega arith))))
 first-declared-by t ss n e = first-by (plain ss n) _ _ e (omega arith)
 
-first-declarator-by : (t : Types) (ss : Stars) (e : Kind) → Safe (first_declarator_by t ss e) 10 1 22 10 0
+first-declarator-by : (t : NameEnvironment) (ss : Stars) (e : Kind) → Safe (first_declarator_by t ss e) 10 1 22 10 0
 first-declarator-by t ss k.Name = safe_take (λ n. safe_look (λ e. first-declared-by t ss n e))
 first-declarator-by t ss k.OpenParen = safe_rise (omega arith) (pointer-by t 3 1 22 1 false false ss (omega arith) (omega arith) (omega arith))
 first-declarator-by t ss _ = safe_stop
 
 -- the first declarator of an item
-pub first-due : (t : Types) → Due (a_first t)
+pub first-due : (t : NameEnvironment) → Due (a_first t)
 first-due t low = safe_call (omega arith) (omega arith) (omega arith) (omega arith) (λ x. safe_look (λ e. first-declarator-by t x e))
 
 item-by : (c : Storage) (ws : Specifiers) (s : Scope) (x : DeclaratorTree) (u n : ℕ) (e : Kind) → 30 ≤ u → 18 ≤ n → Safe (item_by c ws s x e) 20 0 u n 0

@@ -13,10 +13,10 @@ use Rattle.c_grammar.specs.Gauge.{Meter}
 use Rattle.c_grammar.specs.Input.{Input, metered}
 use Rattle.c_grammar.specs.Performing.{perform, at}
 use Rattle.c_grammar.specs.Reading.{read}
-use Rattle.c_grammar.specs.Rules.{Types, Reads, skip, all_specifiers, an_item, begins_type, item_specifiers, item_start_by, only_types, outer_types, is_typedef, a_declarator, an_outer, an_initializer, has_initializer, named_init_by, with_names, item_by}
-use Rattle.expression_parser.specs.Stepping.{Spent}
-use Rattle.expression_parser.proofs.Joining.{same_mapped, Joins, join_spend, join_skip, join_call}
-use Rattle.expression_parser.proofs.Opens.{outer_performs, item_performs}
+use Rattle.c_grammar.specs.Rules.{NameEnvironment, Reads, skip, all_specifiers, an_item, begins_type, item_specifiers, item_start_by, only_types, outer_types, is_typedef, a_declarator, an_outer, an_initializer, has_initializer, named_init_by, with_names, item_by}
+use Rattle.c_grammar.specs.Stepping.{Spent}
+use Rattle.c_grammar.proofs.Joining.{same_mapped, Joins, join_spend, join_skip, join_call}
+use Rattle.c_grammar.proofs.Opens.{outer_performs, item_performs}
 use Rattle.item_parser.specs.ItemParts.{behind_declarator, behind_specifiers, declared}
 
 module _ (c : Storage) (ws : Specifiers) (s : Scope) where
@@ -46,7 +46,7 @@ module _ (c : Storage) (ws : Specifiers) (s : Scope) where
       ap (λ z. perform (item_by c ws s x z) i) (sym is) ∙ declared_on x e i other ∙ ap (λ z. and_then (perform (named_init_by (only_types s.types) 3 (has_initializer x) x z) i) others) is
 
 -- a declared name, behind its declarator
-pub outer_on : (c : Storage) (s : Scope) (t : Types) (x : DeclaratorTree) (i j : Input) → t ≡ outer_types c s → read (a_declarator t 3 true (is_typedef c)) i ≡ got x j.rest j.meter →
+pub outer_on : (c : Storage) (s : Scope) (t : NameEnvironment) (x : DeclaratorTree) (i j : Input) → t ≡ outer_types c s → read (a_declarator t 3 true (is_typedef c)) i ≡ got x j.rest j.meter →
     read (an_outer c s) i ≡ perform (behind_declarator t c x) j
 outer_on c s t x i j is e =
     outer_performs c s i
@@ -54,7 +54,7 @@ outer_on c s t x i j is e =
     ∙ ap (λ z. perform (behind_declarator z c x) j) (sym is)
 
 -- an item, behind its specifiers
-pub specified_on : (c : Storage) (s : Scope) (t : Types) (ws : Specifiers) (i j : Input) → t ≡ only_types s.types → read (all_specifiers t 2 true []) i ≡ got ws j.rest j.meter →
+pub specified_on : (c : Storage) (s : Scope) (t : NameEnvironment) (ws : Specifiers) (i j : Input) → t ≡ only_types s.types → read (all_specifiers t 2 true []) i ≡ got ws j.rest j.meter →
     perform (item_specifiers c s) i ≡ perform (behind_specifiers c ws s) j
 specified_on c s t ws i j is e =
     ap (λ o. and_then o (λ ws us m. perform (behind_specifiers c ws s) (at us m))) (ap (λ z. read (all_specifiers z 2 true []) i) (sym is) ∙ e)

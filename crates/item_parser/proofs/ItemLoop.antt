@@ -14,12 +14,12 @@ use Rattle.c_grammar.specs.Performing.{perform, at}
 use Rattle.c_grammar.specs.Reading.{read}
 use Rattle.c_grammar.specs.Rules.{an_item, all_items, items_by}
 use Rattle.c_grammar.proofs.KindLemmas.{same_true, same_false}
-use Rattle.expression_parser.specs.declared.refusal.Refusal.{Refusal}
-use Rattle.expression_parser.specs.Gives.{Fails}
-use Rattle.expression_parser.specs.Lists.{mapped}
-use Rattle.expression_parser.proofs.Joining.{tail_mapped, then_fails}
-use Rattle.expression_parser.proofs.Loops.{Turn}
-use Rattle.expression_parser.proofs.Opens.{items_performs}
+use Rattle.c_grammar.specs.declared.refusal.Refusal.{Refusal}
+use Rattle.c_grammar.specs.Gives.{Fails}
+use Rattle.c_grammar.specs.Lists.{mapped}
+use Rattle.c_grammar.proofs.Joining.{tail_mapped, then_fails}
+use Rattle.c_grammar.proofs.Loops.{Turn}
+use Rattle.c_grammar.proofs.Opens.{items_performs}
 use Rattle.item_parser.specs.ItemParts.{one_item}
 
 if_joined : {A B : Type 0} (b : Bool) (x : A) (us : Tokens) (m : Meter) (go f : A → Reader Meter B) → ((x : A) (us : Tokens) (m : Meter) → f x us m ≡ go x us m) →

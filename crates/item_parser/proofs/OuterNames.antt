@@ -13,14 +13,14 @@ use Rattle.c_grammar.specs.Performing.{perform, at}
 use Rattle.c_grammar.specs.Reading.{read}
 use Rattle.c_grammar.specs.Rules.{an_outer, more_outer, more_outer_by}
 use Rattle.c_grammar.proofs.KindLemmas.{same_true, same_false}
-use Rattle.expression_parser.specs.declared.refusal.Refusal.{Refusal}
-use Rattle.expression_parser.specs.declared.refusal.Refusal.TheVariants.{Syntax}
-use Rattle.expression_parser.specs.Gives.{Fails}
-use Rattle.expression_parser.specs.Lists.{mapped, before}
-use Rattle.expression_parser.proofs.Joining.{tail_mapped, same_mapped, Joins, join_spend, join_skip, join_call, then_fails, spent_taken, Leaving}
-use Rattle.expression_parser.proofs.Loops.{Loop, Turn}
-use Rattle.expression_parser.proofs.Opens.{more_outer_performs}
-use Rattle.expression_parser.proofs.Shorter.{Leaves}
+use Rattle.c_grammar.specs.declared.refusal.Refusal.{Refusal}
+use Rattle.c_grammar.specs.declared.refusal.Refusal.TheVariants.{Syntax}
+use Rattle.c_grammar.specs.Gives.{Fails}
+use Rattle.c_grammar.specs.Lists.{mapped, before}
+use Rattle.c_grammar.proofs.Joining.{tail_mapped, same_mapped, Joins, join_spend, join_skip, join_call, then_fails, spent_taken, Leaving}
+use Rattle.c_grammar.proofs.Loops.{Loop, Turn}
+use Rattle.c_grammar.proofs.Opens.{more_outer_performs}
+use Rattle.c_grammar.proofs.Shorter.{Leaves}
 use Rattle.type_parser.proofs.TaggedShorter.{taken_shorter}
 use Rattle.item_parser.specs.ItemParts.{another}
 

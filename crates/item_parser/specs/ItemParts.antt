@@ -11,10 +11,10 @@ use Rattle.c_grammar.specs.Body as body
 use Rattle.c_grammar.specs.Gauge.{Meter}
 use Rattle.c_grammar.specs.Input.{Input}
 use Rattle.c_grammar.specs.Performing.{perform, at}
-use Rattle.c_grammar.specs.Rules.{Types, Reads, skip, naming, barred, only_types, outer_types, an_outer, a_first, all_statements, an_item, may_begin, has_initializer, named_init_by, function_of, with_names, item_by, item_names_by, item_specifiers}
+use Rattle.c_grammar.specs.Rules.{NameEnvironment, Reads, skip, naming, barred, only_types, outer_types, an_outer, a_first, all_statements, an_item, may_begin, has_initializer, named_init_by, function_of, with_names, item_by, item_names_by, item_specifiers}
 
 -- a declared name, behind its declarator
-abbrev pub behind_declarator : Types → Storage → DeclaratorTree → Reads NamedTree
+abbrev pub behind_declarator : NameEnvironment → Storage → DeclaratorTree → Reads NamedTree
 behind_declarator t c x = look [] (named_init_by t 3 (may_begin c x) x)
 
 -- one more declared name, behind a comma
@@ -22,7 +22,7 @@ abbrev pub another : Storage → Scope → Reads NamedTree
 another c s = spend 1 3 (skip (body.call (an_outer c s) done))
 
 -- a function, behind its declarator
-abbrev pub function_by : Types → Storage → Specifiers → DeclaratorTree → Reads ItemTree
+abbrev pub function_by : NameEnvironment → Storage → Specifiers → DeclaratorTree → Reads ItemTree
 function_by t c ws x = skip (body.call (all_statements t 3 (of_block outside)) (λ ss. done (function_of c ws ss x)))
 
 -- a declaration, behind its first declarator

@@ -7,17 +7,16 @@ ghost use Rattle.c_grammar.specs.Kind as grammar;
 ghost use Rattle.c_grammar.specs.Performing.{perform};
 ghost use Rattle.c_grammar.specs.Reading.{read};
 ghost use Rattle.c_grammar.specs.Rules.{all_items, an_item, item_specifiers};
-ghost use Rattle.expression_parser.specs.Gives.{Gives};
+ghost use Rattle.c_grammar.specs.Gives.{Gives};
 ghost use Rattle.item_parser.specs.ItemParts.{one_item, stored};
 
 use crate::first::{behind_specifiers, kept};
 use crate::outer::inner_types;
-use c_grammar::{Cursor, Kind, same_kind};
+use c_grammar::steps::{kind, refused, spend};
+use c_grammar::{Cursor, Kind, Names, Refusal, same_kind};
 use c_tree::{Item, Storage};
 use expression_parser::infix::begins_type;
-use expression_parser::refusal::Refusal;
-use expression_parser::steps::{kind, refused, spend};
-use program_scope::{Names, Scope};
+use program_scope::Scope;
 use sqlite_items::{Boxed, Items};
 use std::alloc::Global;
 use type_parser::nest::specifiers;
@@ -62,7 +61,7 @@ fn stored(
 }
 
 /// An item: a function, or a declaration. The scope is then the one behind it.
-#[tactic(auto, using(expression_parser::proofs::Opens::item_performs))]
+#[tactic(auto, using(c_grammar::proofs::Opens::item_performs))]
 fn item(alloc: Global, scope: &mut Scope, cursor: &mut Cursor<'_>) -> Result<Boxed<Item>, Refusal>
     ensures reads { Gives view_item (read (an_item scope.old) cursor.old) result cursor.new }
     ensures behind { IfOk result (λ x. scope.new ≡ behind_item (view_item x) scope.old) }

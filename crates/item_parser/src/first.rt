@@ -12,17 +12,15 @@ ghost use Rattle.c_grammar.specs.Performing.{perform};
 ghost use Rattle.c_grammar.specs.Reading.{read};
 ghost use Rattle.c_grammar.specs.Rules as rules;
 ghost use Rattle.c_grammar.specs.declared.kind.Kind.TheVariants as k;
-ghost use Rattle.expression_parser.specs.Gives.{Gives};
+ghost use Rattle.c_grammar.specs.Gives.{Gives};
 ghost use Rattle.item_parser.specs.ItemParts as spec;
 
 use crate::outer::{inner_types, names, outer};
 use base_core::Lexeme;
-use c_grammar::{Cursor, Kind};
+use c_grammar::steps::{new_kind, refused, rise, spend, word};
+use c_grammar::{Cursor, Kind, NameEnvironment, Names, Refusal};
 use c_tree::{Decl, Declarator, Function, Item, Named, Specs, Stars, Stmt, Storage};
-use expression_parser::grammar::Types;
-use expression_parser::refusal::Refusal;
-use expression_parser::steps::{new_kind, refused, rise, spend, word};
-use program_scope::{Names, Scope};
+use program_scope::Scope;
 use sqlite_items::{Boxed, Items};
 use statement_parser::{
     begins_declarator, body, has_initializer, has_tag, is_function, named_init,
@@ -73,7 +71,7 @@ fn behind_first(
 #[tactic(auto, using(c_tree::proofs::ViewLemmas::view_Declarator_Array))]
 fn first_array(
     alloc: Global,
-    types: &Types<'_>,
+    types: &NameEnvironment<'_>,
     cursor: &mut Cursor<'_>,
     stars: Stars,
     name: Lexeme,
@@ -89,7 +87,7 @@ fn first_array(
 #[tactic(auto, using(c_tree::proofs::ViewLemmas::view_Declarator_Plain, c_tree::proofs::ViewLemmas::view_Declarator_Function))]
 fn first_declared(
     alloc: Global,
-    types: &Types<'_>,
+    types: &NameEnvironment<'_>,
     cursor: &mut Cursor<'_>,
     stars: Stars,
     name: Lexeme,
@@ -112,10 +110,10 @@ fn first_declared(
 }
 
 /// The declarator of a function or of the first name of a declaration.
-#[tactic(auto, using(expression_parser::proofs::Opens::first_performs))]
+#[tactic(auto, using(c_grammar::proofs::Opens::first_performs))]
 fn first(
     alloc: Global,
-    types: &Types<'_>,
+    types: &NameEnvironment<'_>,
     cursor: &mut Cursor<'_>,
 ) -> Result<Boxed<Declarator>, Refusal>
     ensures { Gives view_declarator (read (rules.a_first types.now) cursor.old) result cursor.new }
@@ -184,7 +182,7 @@ fn function_of(
 /// A function, behind its declarator.
 fn function(
     alloc: Global,
-    types: &Types<'_>,
+    types: &NameEnvironment<'_>,
     cursor: &mut Cursor<'_>,
     storage: Storage,
     specs: Specs,
@@ -347,7 +345,7 @@ fn type_item(
     ensures behind { IfOk result (λ x. scope.new ≡ behind_item (view_item x) scope.old) }
 {
     scope.behind_specifiers(specs.as_slice())?;
-    let types = Types::new(scope.types(), scope.others());
+    let types = NameEnvironment::new(scope.types(), scope.others());
     match new_kind(&types, cursor) {
         Kind::Semicolon => no_names(alloc, cursor, Storage::Typedef, specs),
         other => {

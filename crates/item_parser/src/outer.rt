@@ -8,36 +8,34 @@ ghost use Rattle.c_grammar.specs.Body.{look};
 ghost use Rattle.c_grammar.specs.Performing.{perform};
 ghost use Rattle.c_grammar.specs.Reading.{read};
 ghost use Rattle.c_grammar.specs.Rules as rules;
-ghost use Rattle.expression_parser.specs.Gives.{Gives};
-ghost use Rattle.expression_parser.specs.Lists.{mapped};
+ghost use Rattle.c_grammar.specs.Gives.{Gives};
+ghost use Rattle.c_grammar.specs.Lists.{mapped};
 ghost use Rattle.item_parser.specs.ItemParts as spec;
 
-use c_grammar::{Cursor, Kind, same_kind};
+use c_grammar::steps::{expect, spend};
+use c_grammar::{Cursor, Kind, NameEnvironment, Names, Refusal, same_kind};
 use c_tree::{Declarator, Named, Storage};
-use expression_parser::grammar::Types;
-use expression_parser::refusal::Refusal;
-use expression_parser::steps::{expect, spend};
-use program_scope::{Names, Scope};
+use program_scope::Scope;
 use sqlite_items::{Boxed, Items};
 use statement_parser::{has_initializer, named_init};
 use std::alloc::{AllocError, Global};
 use type_parser::nest::{declarator, type_declarator};
 
 /// Where no type is declared: the names that are types.
-pub(crate) fn inner_types<'a>(scope: &'a Scope, none: &'a Names) -> Types<'a>
+pub(crate) fn inner_types<'a>(scope: &'a Scope, none: &'a Names) -> NameEnvironment<'a>
     requires { none.now ≡ [] }
     ensures { result ≡ rules.only_types scope.now.types }
 {
-    Types::new(scope.types(), none)
+    NameEnvironment::new(scope.types(), none)
 }
 
 /// Where names are declared outside functions: the name of a type is new.
-fn outer_types<'a>(storage: Storage, scope: &'a Scope, none: &'a Names) -> Types<'a>
+fn outer_types<'a>(storage: Storage, scope: &'a Scope, none: &'a Names) -> NameEnvironment<'a>
     requires { none.now ≡ [] }
     ensures { result ≡ rules.outer_types storage scope.now }
 {
     match storage {
-        Storage::Typedef => Types::new(scope.types(), scope.others()),
+        Storage::Typedef => NameEnvironment::new(scope.types(), scope.others()),
         Storage::Nothing => inner_types(scope, none),
         Storage::Static => inner_types(scope, none),
         Storage::Extern => inner_types(scope, none),
@@ -47,7 +45,7 @@ fn outer_types<'a>(storage: Storage, scope: &'a Scope, none: &'a Names) -> Types
 /// The declarator of a name outside functions.
 fn outer_declarator(
     alloc: Global,
-    types: &Types<'_>,
+    types: &NameEnvironment<'_>,
     cursor: &mut Cursor<'_>,
     storage: Storage,
 ) -> Result<Boxed<Declarator>, Refusal>
@@ -76,7 +74,7 @@ fn may_begin(storage: Storage, d: &Declarator) -> bool
 /// A declared name behind its declarator.
 fn behind_declarator(
     alloc: Global,
-    types: &Types<'_>,
+    types: &NameEnvironment<'_>,
     cursor: &mut Cursor<'_>,
     storage: Storage,
     found: Boxed<Declarator>,
@@ -88,7 +86,7 @@ fn behind_declarator(
 }
 
 /// A declared name.
-#[tactic(auto, using(expression_parser::proofs::Opens::outer_performs))]
+#[tactic(auto, using(c_grammar::proofs::Opens::outer_performs))]
 pub(crate) fn outer(
     alloc: Global,
     scope: &Scope,

@@ -4,8 +4,8 @@ ghost use Rattle.std.specs.Prelude.{◌≡◌, map, option_map, OnOk};
 ghost use Rattle.c_tree.specs.View.{view_expression, view_type, view_specifier, view_declarator, view_bare, view_member, view_enumerator, view_parameter, expressions_of, sizes_of, specifiers_of, members_of, declarators_of, enumerators_of, parameters_of};
 ghost use Rattle.program_scope.specs.With.{with_name, with_expression, with_expressions, with_sizes, with_type, with_specifiers, with_members, with_declarators, with_enumerators, with_declarator, with_inside, with_parameters, with_bare};
 
-use crate::names::Names;
 use base_core::Lexeme;
+use c_grammar::Names;
 use c_tree::{
     Bare, Declarator, Enumerator, Expr, Member, ParamForm, Parameter, SpecWord, TypeName,
 };

@@ -8,7 +8,7 @@ ghost use Rattle.program_scope.specs.With.{with_init, with_initializers, with_na
 use crate::expressions::{
     add_declarator, add_expression, add_name, add_parameters, add_specifiers,
 };
-use crate::names::Names;
+use c_grammar::Names;
 use c_tree::{Decl, Expr, ForStart, Function, Init, Named, Part, Stmt};
 use std::alloc::AllocError;
 

@@ -9,8 +9,8 @@ ghost use Rattle.program_scope.specs.With.{with_all};
 
 use crate::expressions::{add_inside, add_specifiers};
 use crate::items::{add_function, add_named};
-use crate::names::Names;
 use base_core::Lexeme;
+use c_grammar::Names;
 use c_tree::{Decl, Declarator, Item, Named, SpecWord, Storage};
 use std::alloc::{AllocError, Global};
 use std::marker::Model;

@@ -8,14 +8,14 @@ use Rattle.c_grammar.specs.Body.{done, spend, got, and_then, Reader}
 use Rattle.c_grammar.specs.Body as body
 use Rattle.c_grammar.specs.Gauge.{Meter}
 use Rattle.c_grammar.specs.Input.{Input}
-use Rattle.c_grammar.specs.Rules.{Types, Reads, skip, expect, an_expression}
-use Rattle.expression_parser.specs.declared.refusal.Refusal.{Refusal}
-use Rattle.expression_parser.specs.Gives.{Fails, Gives}
-use Rattle.expression_parser.specs.Performing.{perform, at}
-use Rattle.expression_parser.proofs.Joining.{Joins, join_spend, join_skip, join_expect, join_call, same_mapped, then_fails, erred}
+use Rattle.c_grammar.specs.Rules.{NameEnvironment, Reads, skip, expect, an_expression}
+use Rattle.c_grammar.specs.declared.refusal.Refusal.{Refusal}
+use Rattle.c_grammar.specs.Gives.{Fails, Gives}
+use Rattle.c_grammar.specs.Performing.{perform, at}
+use Rattle.c_grammar.proofs.Joining.{Joins, join_spend, join_skip, join_expect, join_call, same_mapped, then_fails, erred}
 use Rattle.statement_parser.specs.Parts.{condition}
 
-module _ (t : Types) (d owed : ℕ) (f : Expression → Reads StatementTree) where
+module _ (t : NameEnvironment) (d owed : ℕ) (f : Expression → Reads StatementTree) where
   -- what begins with a condition
   abbrev pub conditional : Reads StatementTree
   conditional = spend (owed + 2) (d + 2) (skip (expect k.OpenParen (body.call (an_expression t (d + 1) 1 0) (λ x. expect k.CloseParen (f x)))))

@@ -13,15 +13,15 @@ use Rattle.c_grammar.specs.Body as body
 use Rattle.c_grammar.specs.Gauge.{Meter}
 use Rattle.c_grammar.specs.Input.{Input, next}
 use Rattle.c_grammar.specs.Reading.{read}
-use Rattle.c_grammar.specs.Rules.{Types, a_statement, all_statements, statements_by}
+use Rattle.c_grammar.specs.Rules.{NameEnvironment, a_statement, all_statements, statements_by}
 use Rattle.c_grammar.proofs.KindLemmas.{same_true, same_false}
-use Rattle.expression_parser.specs.declared.refusal.Refusal.{Refusal}
-use Rattle.expression_parser.specs.Gives.{Fails}
-use Rattle.expression_parser.specs.Lists.{mapped, before}
-use Rattle.expression_parser.specs.Performing.{perform, at}
-use Rattle.expression_parser.proofs.Joining.{tail_mapped, then_fails}
-use Rattle.expression_parser.proofs.Loops.{Turn}
-use Rattle.expression_parser.proofs.Opens.{statements_performs}
+use Rattle.c_grammar.specs.declared.refusal.Refusal.{Refusal}
+use Rattle.c_grammar.specs.Gives.{Fails}
+use Rattle.c_grammar.specs.Lists.{mapped, before}
+use Rattle.c_grammar.specs.Performing.{perform, at}
+use Rattle.c_grammar.proofs.Joining.{tail_mapped, then_fails}
+use Rattle.c_grammar.proofs.Loops.{Turn}
+use Rattle.c_grammar.proofs.Opens.{statements_performs}
 use Rattle.statement_parser.specs.Parts.{one_statement}
 
 -- fewer tokens are left
@@ -39,7 +39,7 @@ strict_under n (got v us m) = tested_under (nat_lt (length us) n) n v us m (λ i
 strict_under n (refused us) = tt
 strict_under n (exceeded us) = tt
 
-module _ (t : Types) (d : ℕ) (p : Place) where
+module _ (t : NameEnvironment) (d : ℕ) (p : Place) where
   abbrev others : StatementTree → Reader Meter Statements
   others x us m = mapped (statements x) (read (all_statements t d p) (at us m))
 
@@ -59,28 +59,28 @@ module _ (t : Types) (d : ℕ) (p : Place) where
   strict_on n (refused us) = refl
   strict_on n (exceeded us) = refl
 
-  statements_on : (i : Input) → same_kind (kind t.names i.rest) k.CloseBrace ≡ false → read (all_statements t d p) i ≡ and_then (perform (one_statement t d p) i) others
+  statements_on : (i : Input) → same_kind (kind t.types i.rest) k.CloseBrace ≡ false → read (all_statements t d p) i ≡ and_then (perform (one_statement t d p) i) others
   statements_on i other =
       statements_performs t d p i
-      ∙ ap (λ b. perform b i) (statements_some (kind t.names i.rest) (same_false (kind t.names i.rest) k.CloseBrace other))
+      ∙ ap (λ b. perform b i) (statements_some (kind t.types i.rest) (same_false (kind t.types i.rest) k.CloseBrace other))
       ∙ strict_on (length i.rest) (read (a_statement t d p 1) i)
 
   -- one statement more
-  pub statements_turn : (i j : Input) (x : StatementTree) → same_kind (kind t.names i.rest) k.CloseBrace ≡ false → perform (one_statement t d p) i ≡ got x j.rest j.meter →
+  pub statements_turn : (i j : Input) (x : StatementTree) → same_kind (kind t.types i.rest) k.CloseBrace ≡ false → perform (one_statement t d p) i ≡ got x j.rest j.meter →
       Turn statements x (read (all_statements t d p) i) (read (all_statements t d p) j)
   statements_turn i j x other e = record { is = statements_on i other ∙ ap (λ o. and_then o others) e }
 
-  pub statements_fail : (i : Input) (e : Refusal) → same_kind (kind t.names i.rest) k.CloseBrace ≡ false → Fails (perform (one_statement t d p) i) e → Fails (read (all_statements t d p) i) e
+  pub statements_fail : (i : Input) (e : Refusal) → same_kind (kind t.types i.rest) k.CloseBrace ≡ false → Fails (perform (one_statement t d p) i) e → Fails (read (all_statements t d p) i) e
   statements_fail i e other h = subst (λ o. Fails o e) (sym (statements_on i other)) (then_fails others h)
 
   pub statements_shorter : (i j : Input) (x : StatementTree) → perform (one_statement t d p) i ≡ got x j.rest j.meter → length j.rest < length i.rest
   statements_shorter i j x e = subst (λ o. Under (length i.rest) o) e (strict_under (length i.rest) (read (a_statement t d p 1) i))
 
   -- the closing brace
-  pub statements_end : (i j : Input) → same_kind (kind t.names i.rest) k.CloseBrace ≡ true → j ≡ next i → read (all_statements t d p) i ≡ got no_statements j.rest j.meter
+  pub statements_end : (i j : Input) → same_kind (kind t.types i.rest) k.CloseBrace ≡ true → j ≡ next i → read (all_statements t d p) i ≡ got no_statements j.rest j.meter
   statements_end i j is go =
       statements_performs t d p i
-      ∙ ap (λ x. perform (statements_by t d p x) i) (same_true (kind t.names i.rest) k.CloseBrace is)
+      ∙ ap (λ x. perform (statements_by t d p x) i) (same_true (kind t.types i.rest) k.CloseBrace is)
       ∙ ap (λ z. got no_statements z.rest z.meter) (sym go)
 
 -- the list of all of them

@@ -8,17 +8,17 @@ use Rattle.c_grammar.specs.Body.{stop, got, refused, and_then, Reader}
 use Rattle.c_grammar.specs.Gauge.{Meter}
 use Rattle.c_grammar.specs.Input.{Input, next}
 use Rattle.c_grammar.specs.Reading.{read}
-use Rattle.c_grammar.specs.Rules.{Types, more_named, more_named_by}
+use Rattle.c_grammar.specs.Rules.{NameEnvironment, more_named, more_named_by}
 use Rattle.c_grammar.proofs.KindLemmas.{same_true, same_false}
-use Rattle.expression_parser.specs.declared.refusal.Refusal.{Refusal}
-use Rattle.expression_parser.specs.declared.refusal.Refusal.TheVariants.{Syntax}
-use Rattle.expression_parser.specs.Gives.{Fails}
-use Rattle.expression_parser.specs.Lists.{mapped}
-use Rattle.expression_parser.specs.Performing.{perform, at}
-use Rattle.expression_parser.proofs.Joining.{tail_mapped, same_mapped, Joins, join_spend, join_skip, join_call, then_fails, spent_taken, Leaving}
-use Rattle.expression_parser.proofs.Loops.{Turn}
-use Rattle.expression_parser.proofs.Opens.{more_named_performs}
-use Rattle.expression_parser.proofs.Shorter.{Leaves}
+use Rattle.c_grammar.specs.declared.refusal.Refusal.{Refusal}
+use Rattle.c_grammar.specs.declared.refusal.Refusal.TheVariants.{Syntax}
+use Rattle.c_grammar.specs.Gives.{Fails}
+use Rattle.c_grammar.specs.Lists.{mapped}
+use Rattle.c_grammar.specs.Performing.{perform, at}
+use Rattle.c_grammar.proofs.Joining.{tail_mapped, same_mapped, Joins, join_spend, join_skip, join_call, then_fails, spent_taken, Leaving}
+use Rattle.c_grammar.proofs.Loops.{Turn}
+use Rattle.c_grammar.proofs.Opens.{more_named_performs}
+use Rattle.c_grammar.proofs.Shorter.{Leaves}
 use Rattle.type_parser.proofs.TaggedShorter.{taken_shorter}
 use Rattle.statement_parser.specs.DeclarationParts.{another_name}
 
@@ -26,7 +26,7 @@ use Rattle.statement_parser.specs.DeclarationParts.{another_name}
 abbrev with_name : NamedTree → List NamedTree → List NamedTree
 with_name x xs = x ∷ xs
 
-module _ (t : Types) (d : ℕ) where
+module _ (t : NameEnvironment) (d : ℕ) where
   abbrev others : NamedTree → Reader Meter (List NamedTree)
   others x us m = mapped (with_name x) (read (more_named t d) (at us m))
 

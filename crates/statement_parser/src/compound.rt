@@ -8,7 +8,7 @@ ghost use Rattle.c_grammar.specs.declared.kind.Kind.TheVariants as k;
 ghost use Rattle.c_grammar.specs.Body.{look};
 ghost use Rattle.c_grammar.specs.Performing.{perform};
 ghost use Rattle.c_grammar.specs.Rules.{statement_by, else_by};
-ghost use Rattle.expression_parser.specs.Gives.{Gives};
+ghost use Rattle.c_grammar.specs.Gives.{Gives};
 ghost use Rattle.statement_parser.specs.Nests.{Nests};
 ghost use Rattle.statement_parser.specs.Parts.{condition, if_branch, while_repeated, do_condition, do_ended, for_tested, for_repeated, switched};
 ghost use Rattle.statement_parser.specs.Context.{view_context};
@@ -16,11 +16,9 @@ ghost use Rattle.statement_parser.specs.Context.{view_context};
 use crate::context::Context;
 use crate::optional::{optional, start, unboxed};
 use crate::reader::{Found, Nested, Statements};
-use c_grammar::{Cursor, Kind};
+use c_grammar::steps::{expect, spend};
+use c_grammar::{Cursor, Kind, NameEnvironment, Refusal};
 use c_tree::{Expr, ForStart, Stmt};
-use expression_parser::grammar::Types;
-use expression_parser::refusal::Refusal;
-use expression_parser::steps::{expect, spend};
 use sqlite_items::{Boxed, Items};
 use std::alloc::{AllocError, Global};
 use type_parser::nest::expression;
@@ -36,7 +34,7 @@ fn as_block(alloc: Global, found: Items<Stmt>) -> Result<Boxed<Stmt>, AllocError
 /// What an if, a while or a switch begins with: its word, and an expression in brackets.
 fn condition(
     alloc: Global,
-    types: &Types<'_>,
+    types: &NameEnvironment<'_>,
     cursor: &mut Cursor<'_>,
     d: u32,
     owed: u32,
@@ -73,7 +71,7 @@ fn do_ended(
 /// A do, behind what it repeats.
 fn do_condition(
     alloc: Global,
-    types: &Types<'_>,
+    types: &NameEnvironment<'_>,
     cursor: &mut Cursor<'_>,
     d: u32,
     repeated: Boxed<Stmt>,
@@ -88,7 +86,14 @@ fn do_condition(
 }
 
 impl<
-    F: Fn(Global, &Types<'_>, &mut Cursor<'_>, usize, u32, Nested) -> Result<Found, Refusal>,
+    F: Fn(
+        Global,
+        &NameEnvironment<'_>,
+        &mut Cursor<'_>,
+        usize,
+        u32,
+        Nested,
+    ) -> Result<Found, Refusal>,
 > Statements<'_, F> {
     /// Statements in their braces.
     #[tactic(auto, using(c_tree::proofs::StatementViewLemmas::view_Stmt_Block))]

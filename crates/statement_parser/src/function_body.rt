@@ -5,21 +5,19 @@ ghost use Rattle.c_tree.specs.Shape.{of_block, outside};
 ghost use Rattle.c_tree.specs.StatementView.{view_statement, statements_of};
 ghost use Rattle.c_grammar.specs.Reading.{read};
 ghost use Rattle.c_grammar.specs.Rules.{all_statements};
-ghost use Rattle.expression_parser.specs.Gives.{Gives};
+ghost use Rattle.c_grammar.specs.Gives.{Gives};
 
 use crate::context::Context;
 use crate::nest;
-use c_grammar::Cursor;
+use c_grammar::{Cursor, NameEnvironment, Refusal};
 use c_tree::Stmt;
-use expression_parser::grammar::Types;
-use expression_parser::refusal::Refusal;
 use sqlite_items::Items;
 use std::alloc::Global;
 
 /// The statements of a function's body, with its closing brace.
 pub fn body(
     alloc: Global,
-    types: &Types<'_>,
+    types: &NameEnvironment<'_>,
     cursor: &mut Cursor<'_>,
 ) -> Result<Items<Stmt>, Refusal>
     ensures { Gives (λ ss. statements_of (map view_statement ss)) (read (all_statements types.now 3 (of_block outside)) cursor.old) result cursor.new }

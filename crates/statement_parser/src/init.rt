@@ -4,17 +4,15 @@ ghost use Rattle.std.specs.Prelude.{◌≡◌, ◌≤◌};
 ghost use Rattle.c_tree.specs.StatementView.{view_init};
 ghost use Rattle.c_grammar.specs.Reading.{read};
 ghost use Rattle.c_grammar.specs.Rules.{an_initializer};
-ghost use Rattle.expression_parser.specs.Gives.{Gives};
-ghost use Rattle.expression_parser.specs.Performing.{perform};
+ghost use Rattle.c_grammar.specs.Gives.{Gives};
+ghost use Rattle.c_grammar.specs.Performing.{perform};
 ghost use Rattle.statement_parser.specs.InitNests.{InitNests};
 ghost use Rattle.statement_parser.specs.PartList.{braced};
 
 use crate::part::{Nest, parts};
-use c_grammar::{Cursor, Kind};
+use c_grammar::steps::{kind, spend};
+use c_grammar::{Cursor, Kind, NameEnvironment, Refusal};
 use c_tree::{Init, InitList};
-use expression_parser::grammar::Types;
-use expression_parser::refusal::Refusal;
-use expression_parser::steps::{kind, spend};
 use sqlite_items::Boxed;
 use std::alloc::Global;
 use type_parser::nest::expression;
@@ -25,7 +23,14 @@ const MAX_NESTING: usize = 10_000;
 /// An initialiser in braces.
 #[tactic(auto, using(c_tree::proofs::StatementViewLemmas::view_Init_Parts, c_tree::proofs::StatementViewLemmas::view_InitList))]
 fn braced<
-    F: Fn(Global, &Types<'_>, &mut Cursor<'_>, usize, u32, u32) -> Result<Boxed<Init>, Refusal>,
+    F: Fn(
+        Global,
+        &NameEnvironment<'_>,
+        &mut Cursor<'_>,
+        usize,
+        u32,
+        u32,
+    ) -> Result<Boxed<Init>, Refusal>,
 >(nest: &Nest<'_, F>, cursor: &mut Cursor<'_>, d: u32, owed: u32) -> Result<Boxed<Init>, Refusal>
     requires nests { InitNests nest.now.budget (F.pre nest.now.read) (F.post nest.now.read) }
     requires small { d ≤ 1001 }
@@ -39,9 +44,16 @@ fn braced<
 }
 
 /// An initialiser: a list in braces, or an expression.
-#[tactic(auto, using(expression_parser::proofs::Opens::initializer_performs, c_tree::proofs::StatementViewLemmas::view_Init_Expr))]
+#[tactic(auto, using(c_grammar::proofs::Opens::initializer_performs, c_tree::proofs::StatementViewLemmas::view_Init_Expr))]
 fn single_or_braced<
-    F: Fn(Global, &Types<'_>, &mut Cursor<'_>, usize, u32, u32) -> Result<Boxed<Init>, Refusal>,
+    F: Fn(
+        Global,
+        &NameEnvironment<'_>,
+        &mut Cursor<'_>,
+        usize,
+        u32,
+        u32,
+    ) -> Result<Boxed<Init>, Refusal>,
 >(nest: &Nest<'_, F>, cursor: &mut Cursor<'_>, d: u32, owed: u32) -> Result<Boxed<Init>, Refusal>
     requires nests { InitNests nest.now.budget (F.pre nest.now.read) (F.post nest.now.read) }
     requires small { d ≤ 1001 }
@@ -60,7 +72,7 @@ fn single_or_braced<
 /// Reads an initialiser. Where it nests too often, there is no memory for it.
 fn nested(
     alloc: Global,
-    types: &Types<'_>,
+    types: &NameEnvironment<'_>,
     cursor: &mut Cursor<'_>,
     budget: usize,
     d: u32,
@@ -85,7 +97,7 @@ fn nested(
 /// An initialiser, whose first token makes so many nodes necessary besides its own.
 pub fn initializer(
     alloc: Global,
-    types: &Types<'_>,
+    types: &NameEnvironment<'_>,
     cursor: &mut Cursor<'_>,
     d: u32,
     owed: u32,

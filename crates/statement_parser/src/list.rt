@@ -5,23 +5,28 @@ ghost use Rattle.c_tree.specs.StatementView.{view_statement, statements_of};
 ghost use Rattle.c_grammar.specs.Performing.{perform};
 ghost use Rattle.c_grammar.specs.Reading.{read};
 ghost use Rattle.c_grammar.specs.Rules.{all_statements};
-ghost use Rattle.expression_parser.specs.Gives.{Gives};
+ghost use Rattle.c_grammar.specs.Gives.{Gives};
 ghost use Rattle.statement_parser.specs.Nests.{Nests};
 ghost use Rattle.statement_parser.specs.Parts.{one_statement};
 ghost use Rattle.statement_parser.specs.Context.{view_context};
 
 use crate::context::Context;
 use crate::reader::{Found, Nested, Statements};
-use c_grammar::{Cursor, Kind, same_kind};
+use c_grammar::steps::{kind, refused};
+use c_grammar::{Cursor, Kind, NameEnvironment, Refusal, same_kind};
 use c_tree::Stmt;
-use expression_parser::grammar::Types;
-use expression_parser::refusal::Refusal;
-use expression_parser::steps::{kind, refused};
 use sqlite_items::{Boxed, Items};
 use std::alloc::Global;
 
 impl<
-    F: Fn(Global, &Types<'_>, &mut Cursor<'_>, usize, u32, Nested) -> Result<Found, Refusal>,
+    F: Fn(
+        Global,
+        &NameEnvironment<'_>,
+        &mut Cursor<'_>,
+        usize,
+        u32,
+        Nested,
+    ) -> Result<Found, Refusal>,
 > Statements<'_, F> {
     /// One statement of a block. It takes a token at least, so that the second refusal never comes.
     fn one(&self, cursor: &mut Cursor<'_>, d: u32, context: Context) -> Result<Boxed<Stmt>, Refusal>

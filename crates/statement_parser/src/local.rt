@@ -7,16 +7,14 @@ ghost use Rattle.c_grammar.specs.Body.{look};
 ghost use Rattle.c_grammar.specs.Performing.{perform};
 ghost use Rattle.c_grammar.specs.Reading.{read};
 ghost use Rattle.c_grammar.specs.Rules.{a_declaration, a_declared, declared_names_by};
-ghost use Rattle.expression_parser.specs.Gives.{Gives};
+ghost use Rattle.c_grammar.specs.Gives.{Gives};
 ghost use Rattle.statement_parser.specs.DeclarationParts.{some_names, counted_names};
 
 use crate::forms::{begins_declarator, has_tag};
 use crate::named::{declared_name, more_names};
-use c_grammar::{Cursor, Kind};
+use c_grammar::steps::{kind, refused, spend};
+use c_grammar::{Cursor, Kind, NameEnvironment, Refusal};
 use c_tree::{Decl, Specs, Storage};
-use expression_parser::grammar::Types;
-use expression_parser::refusal::Refusal;
-use expression_parser::steps::{kind, refused, spend};
 use sqlite_items::Items;
 use std::alloc::Global;
 use type_parser::nest::specifiers;
@@ -24,7 +22,7 @@ use type_parser::nest::specifiers;
 /// Declared names behind these specifiers, at least one, with the semicolon.
 fn some_names(
     alloc: Global,
-    types: &Types<'_>,
+    types: &NameEnvironment<'_>,
     cursor: &mut Cursor<'_>,
     d: u32,
     storage: Storage,
@@ -45,7 +43,7 @@ fn some_names(
 /// The same where the first name is still to be counted.
 fn counted_names(
     alloc: Global,
-    types: &Types<'_>,
+    types: &NameEnvironment<'_>,
     cursor: &mut Cursor<'_>,
     d: u32,
     storage: Storage,
@@ -62,14 +60,14 @@ fn counted_names(
 /// limits, so that `d` is at most 1000 and the refusal for want of memory never comes.
 fn declared_names(
     alloc: Global,
-    types: &Types<'_>,
+    types: &NameEnvironment<'_>,
     cursor: &mut Cursor<'_>,
     d: u32,
     storage: Storage,
     specs: Specs,
 ) -> Result<Decl, Refusal>
     requires { d ≤ 1001 }
-    ensures { Gives view_declaration (perform (look types.now.names (declared_names_by types.now d storage (specifiers_of (map view_specifier specs)))) cursor.old) result cursor.new }
+    ensures { Gives view_declaration (perform (look types.now.types (declared_names_by types.now d storage (specifiers_of (map view_specifier specs)))) cursor.old) result cursor.new }
 {
     match kind(types, cursor) {
         Kind::Semicolon => {
@@ -101,10 +99,10 @@ fn declared_names(
 }
 
 /// A declaration of this storage, behind the word for it if there is one, with its semicolon.
-#[tactic(auto, using(expression_parser::proofs::Opens::declared_performs))]
+#[tactic(auto, using(c_grammar::proofs::Opens::declared_performs))]
 fn declared(
     alloc: Global,
-    types: &Types<'_>,
+    types: &NameEnvironment<'_>,
     cursor: &mut Cursor<'_>,
     d: u32,
     storage: Storage,
@@ -117,10 +115,10 @@ fn declared(
 }
 
 /// A declaration inside a function, with its semicolon.
-#[tactic(auto, using(expression_parser::proofs::Opens::declaration_performs))]
+#[tactic(auto, using(c_grammar::proofs::Opens::declaration_performs))]
 pub fn declaration(
     alloc: Global,
-    types: &Types<'_>,
+    types: &NameEnvironment<'_>,
     cursor: &mut Cursor<'_>,
     d: u32,
 ) -> Result<Decl, Refusal>

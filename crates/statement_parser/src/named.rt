@@ -8,17 +8,15 @@ ghost use Rattle.c_grammar.specs.Body.{look};
 ghost use Rattle.c_grammar.specs.Performing.{perform};
 ghost use Rattle.c_grammar.specs.Reading.{read};
 ghost use Rattle.c_grammar.specs.Rules.{a_named, more_named, named_init_by};
-ghost use Rattle.expression_parser.specs.Gives.{Gives};
-ghost use Rattle.expression_parser.specs.Lists.{mapped};
+ghost use Rattle.c_grammar.specs.Gives.{Gives};
+ghost use Rattle.c_grammar.specs.Lists.{mapped};
 ghost use Rattle.statement_parser.specs.DeclarationParts.{another_name};
 
 use crate::forms::has_initializer;
 use crate::init::initializer;
-use c_grammar::{Cursor, Kind, same_kind};
+use c_grammar::steps::{expect, refused, spend};
+use c_grammar::{Cursor, Kind, NameEnvironment, Refusal, same_kind};
 use c_tree::{Declarator, Named};
-use expression_parser::grammar::Types;
-use expression_parser::refusal::Refusal;
-use expression_parser::steps::{expect, refused, spend};
 use sqlite_items::{Boxed, Items};
 use std::alloc::Global;
 use type_parser::nest::declarator;
@@ -26,7 +24,7 @@ use type_parser::nest::declarator;
 /// A declared name at the sign before its initialiser.
 fn initialized(
     alloc: Global,
-    types: &Types<'_>,
+    types: &NameEnvironment<'_>,
     cursor: &mut Cursor<'_>,
     d: u32,
     declarator: Boxed<Declarator>,
@@ -49,7 +47,7 @@ fn initialized(
 /// A declared name behind its declarator, whose name has depth `d`: its initialiser, which it may have or not, or none.
 pub fn named_init(
     alloc: Global,
-    types: &Types<'_>,
+    types: &NameEnvironment<'_>,
     cursor: &mut Cursor<'_>,
     d: u32,
     may_begin: bool,
@@ -77,10 +75,10 @@ pub fn named_init(
 }
 
 /// A declared name.
-#[tactic(auto, using(expression_parser::proofs::Opens::named_performs))]
+#[tactic(auto, using(c_grammar::proofs::Opens::named_performs))]
 pub fn declared_name(
     alloc: Global,
-    types: &Types<'_>,
+    types: &NameEnvironment<'_>,
     cursor: &mut Cursor<'_>,
     d: u32,
 ) -> Result<Boxed<Named>, Refusal>
@@ -95,7 +93,7 @@ pub fn declared_name(
 /// One more declared name, behind a comma.
 fn another_name(
     alloc: Global,
-    types: &Types<'_>,
+    types: &NameEnvironment<'_>,
     cursor: &mut Cursor<'_>,
     d: u32,
 ) -> Result<Boxed<Named>, Refusal>
@@ -110,7 +108,7 @@ fn another_name(
 /// The declared names behind the first, with the semicolon.
 pub fn more_names(
     alloc: Global,
-    types: &Types<'_>,
+    types: &NameEnvironment<'_>,
     cursor: &mut Cursor<'_>,
     d: u32,
     first: Boxed<Named>,

@@ -4,16 +4,14 @@ ghost use Rattle.std.specs.Prelude.{◌≡◌, ◌≤◌, map};
 ghost use Rattle.c_tree.specs.StatementView.{view_statement, statements_of};
 ghost use Rattle.c_grammar.specs.Reading.{read};
 ghost use Rattle.c_grammar.specs.Rules.{all_statements};
-ghost use Rattle.expression_parser.specs.Gives.{Gives};
+ghost use Rattle.c_grammar.specs.Gives.{Gives};
 ghost use Rattle.statement_parser.specs.Nests.{Finds, IsSmall};
 ghost use Rattle.statement_parser.specs.Context.{view_context};
 
 use crate::context::Context;
 use crate::reader::{Found, Nested, Statements};
-use c_grammar::Cursor;
+use c_grammar::{Cursor, NameEnvironment, Refusal};
 use c_tree::Stmt;
-use expression_parser::grammar::Types;
-use expression_parser::refusal::Refusal;
 use sqlite_items::Items;
 use std::alloc::Global;
 
@@ -23,7 +21,7 @@ const MAX_NESTING: usize = 10_000;
 /// Reads what nests. Where it nests too often, there is no memory for it.
 fn nested(
     alloc: Global,
-    types: &Types<'_>,
+    types: &NameEnvironment<'_>,
     cursor: &mut Cursor<'_>,
     budget: usize,
     d: u32,
@@ -52,7 +50,7 @@ fn nested(
 /// The statements of a block at this context, with the closing brace.
 pub fn block(
     alloc: Global,
-    types: &Types<'_>,
+    types: &NameEnvironment<'_>,
     cursor: &mut Cursor<'_>,
     d: u32,
     context: Context,

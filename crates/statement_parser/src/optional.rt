@@ -7,15 +7,13 @@ ghost use Rattle.c_grammar.specs.Kind.{IsReal};
 ghost use Rattle.c_grammar.specs.Reading.{read};
 ghost use Rattle.c_grammar.specs.Rules as rules;
 ghost use Rattle.c_grammar.specs.Rules.{an_optional, a_start};
-ghost use Rattle.expression_parser.specs.Gives.{Gives};
+ghost use Rattle.c_grammar.specs.Gives.{Gives};
 
 use crate::local::declaration;
-use c_grammar::{Cursor, Kind, same_kind};
+use c_grammar::steps::{expect, kind, spend};
+use c_grammar::{Cursor, Kind, NameEnvironment, Refusal, same_kind};
 use c_tree::{Expr, ForStart};
-use expression_parser::grammar::Types;
 use expression_parser::infix::begins_type;
-use expression_parser::refusal::Refusal;
-use expression_parser::steps::{expect, kind, spend};
 use sqlite_items::Boxed;
 use std::alloc::Global;
 use type_parser::nest::expression;
@@ -31,10 +29,10 @@ pub fn begins_declaration(kind: Kind) -> bool
 }
 
 /// An expression and a token of this kind, or the token alone.
-#[tactic(auto, using(expression_parser::proofs::Opens::optional_performs))]
+#[tactic(auto, using(c_grammar::proofs::Opens::optional_performs))]
 pub fn optional(
     alloc: Global,
-    types: &Types<'_>,
+    types: &NameEnvironment<'_>,
     cursor: &mut Cursor<'_>,
     d: u32,
     end: Kind,
@@ -63,10 +61,10 @@ pub fn unboxed(e: Option<Boxed<Expr>>) -> Option<Expr>
 }
 
 /// What a for begins with, with its semicolon.
-#[tactic(auto, using(expression_parser::proofs::Opens::start_performs))]
+#[tactic(auto, using(c_grammar::proofs::Opens::start_performs))]
 pub fn start(
     alloc: Global,
-    types: &Types<'_>,
+    types: &NameEnvironment<'_>,
     cursor: &mut Cursor<'_>,
     d: u32,
 ) -> Result<Boxed<ForStart>, Refusal>

@@ -6,17 +6,15 @@ ghost use Rattle.c_tree.specs.StatementView.{view_init, view_part, initializers_
 ghost use Rattle.c_grammar.specs.Body.{look};
 ghost use Rattle.c_grammar.specs.Reading.{read};
 ghost use Rattle.c_grammar.specs.Rules.{an_initializer, all_initializers};
-ghost use Rattle.expression_parser.specs.Gives.{Gives};
-ghost use Rattle.expression_parser.specs.Performing.{perform};
+ghost use Rattle.c_grammar.specs.Gives.{Gives};
+ghost use Rattle.c_grammar.specs.Performing.{perform};
 ghost use Rattle.statement_parser.specs.InitNests.{InitNests};
 ghost use Rattle.statement_parser.specs.PartList.{behind_part_by, assigned, named_part, one_part};
 
 use base_core::Lexeme;
-use c_grammar::{Cursor, Kind};
+use c_grammar::steps::{expect, kind, name, refused, spend};
+use c_grammar::{Cursor, Kind, NameEnvironment, Refusal};
 use c_tree::{Init, Part};
-use expression_parser::grammar::Types;
-use expression_parser::refusal::Refusal;
-use expression_parser::steps::{expect, kind, name, refused, spend};
 use sqlite_items::{Boxed, Items};
 use std::alloc::Global;
 
@@ -25,7 +23,7 @@ use std::alloc::Global;
 pub struct Nest<'a, F> {
     pub alloc: Global,
     /// The names that are types.
-    pub types: &'a Types<'a>,
+    pub types: &'a NameEnvironment<'a>,
     /// How often initialisers may still nest.
     pub budget: usize,
     pub read: F,
@@ -33,7 +31,14 @@ pub struct Nest<'a, F> {
 
 /// An initialiser in another, whose first token makes so many nodes necessary besides its own.
 fn inner<
-    F: Fn(Global, &Types<'_>, &mut Cursor<'_>, usize, u32, u32) -> Result<Boxed<Init>, Refusal>,
+    F: Fn(
+        Global,
+        &NameEnvironment<'_>,
+        &mut Cursor<'_>,
+        usize,
+        u32,
+        u32,
+    ) -> Result<Boxed<Init>, Refusal>,
 >(nest: &Nest<'_, F>, cursor: &mut Cursor<'_>, d: u32, owed: u32) -> Result<Boxed<Init>, Refusal>
     requires nests { InitNests nest.now.budget (F.pre nest.now.read) (F.post nest.now.read) }
     requires small { d ≤ 1001 }
@@ -57,7 +62,7 @@ fn part_of(name: Option<Lexeme>, init: Boxed<Init>) -> Part
 /// Behind a part: the closing brace, or a comma, behind which that brace may stand too. Where neither brace stands there,
 /// another part begins.
 fn behind_part(
-    types: &Types<'_>,
+    types: &NameEnvironment<'_>,
     cursor: &mut Cursor<'_>,
     name: Option<Lexeme>,
     init: Boxed<Init>,
@@ -85,7 +90,14 @@ fn behind_part(
 
 /// A part for a named member, behind its name.
 fn assigned<
-    F: Fn(Global, &Types<'_>, &mut Cursor<'_>, usize, u32, u32) -> Result<Boxed<Init>, Refusal>,
+    F: Fn(
+        Global,
+        &NameEnvironment<'_>,
+        &mut Cursor<'_>,
+        usize,
+        u32,
+        u32,
+    ) -> Result<Boxed<Init>, Refusal>,
 >(
     nest: &Nest<'_, F>,
     cursor: &mut Cursor<'_>,
@@ -103,7 +115,14 @@ fn assigned<
 
 /// A part for a named member, from its dot on.
 fn named_part<
-    F: Fn(Global, &Types<'_>, &mut Cursor<'_>, usize, u32, u32) -> Result<Boxed<Init>, Refusal>,
+    F: Fn(
+        Global,
+        &NameEnvironment<'_>,
+        &mut Cursor<'_>,
+        usize,
+        u32,
+        u32,
+    ) -> Result<Boxed<Init>, Refusal>,
 >(
     nest: &Nest<'_, F>,
     cursor: &mut Cursor<'_>,
@@ -122,7 +141,14 @@ fn named_part<
 
 /// One part, and where it is the last whether a comma stands behind it.
 fn part<
-    F: Fn(Global, &Types<'_>, &mut Cursor<'_>, usize, u32, u32) -> Result<Boxed<Init>, Refusal>,
+    F: Fn(
+        Global,
+        &NameEnvironment<'_>,
+        &mut Cursor<'_>,
+        usize,
+        u32,
+        u32,
+    ) -> Result<Boxed<Init>, Refusal>,
 >(
     nest: &Nest<'_, F>,
     cursor: &mut Cursor<'_>,
@@ -146,7 +172,14 @@ fn part<
 /// The parts of a list, with the closing brace, and whether a comma stands before it. What stands in the place of the first
 /// part was counted with the brace before it; the first token of each later part makes its initialiser necessary.
 pub fn parts<
-    F: Fn(Global, &Types<'_>, &mut Cursor<'_>, usize, u32, u32) -> Result<Boxed<Init>, Refusal>,
+    F: Fn(
+        Global,
+        &NameEnvironment<'_>,
+        &mut Cursor<'_>,
+        usize,
+        u32,
+        u32,
+    ) -> Result<Boxed<Init>, Refusal>,
 >(nest: &Nest<'_, F>, cursor: &mut Cursor<'_>, d: u32) -> Result<(Items<Part>, bool), Refusal>
     requires nests { InitNests nest.now.budget (F.pre nest.now.read) (F.post nest.now.read) }
     requires small { d ≤ 1001 }

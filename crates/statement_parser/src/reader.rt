@@ -4,15 +4,13 @@ ghost use Rattle.std.specs.Prelude.{◌≡◌, ◌≤◌, map};
 ghost use Rattle.c_tree.specs.StatementView.{view_statement, statements_of};
 ghost use Rattle.c_grammar.specs.Reading.{read};
 ghost use Rattle.c_grammar.specs.Rules.{a_statement, all_statements};
-ghost use Rattle.expression_parser.specs.Gives.{Gives};
+ghost use Rattle.c_grammar.specs.Gives.{Gives};
 ghost use Rattle.statement_parser.specs.Nests.{Nests};
 ghost use Rattle.statement_parser.specs.Context.{view_context};
 
 use crate::context::Context;
-use c_grammar::Cursor;
+use c_grammar::{Cursor, NameEnvironment, Refusal};
 use c_tree::Stmt;
-use expression_parser::grammar::Types;
-use expression_parser::refusal::Refusal;
 use sqlite_items::{Boxed, Items};
 use std::alloc::Global;
 
@@ -35,14 +33,21 @@ pub enum Found {
 pub struct Statements<'a, F> {
     pub alloc: Global,
     /// The names that are types.
-    pub types: &'a Types<'a>,
+    pub types: &'a NameEnvironment<'a>,
     /// How often statements may still nest.
     pub budget: usize,
     pub read: F,
 }
 
 impl<
-    F: Fn(Global, &Types<'_>, &mut Cursor<'_>, usize, u32, Nested) -> Result<Found, Refusal>,
+    F: Fn(
+        Global,
+        &NameEnvironment<'_>,
+        &mut Cursor<'_>,
+        usize,
+        u32,
+        Nested,
+    ) -> Result<Found, Refusal>,
 > Statements<'_, F> {
     /// A statement, whose first token makes so many nodes necessary besides its own.
     pub fn statement(

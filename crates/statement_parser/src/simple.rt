@@ -7,7 +7,7 @@ ghost use Rattle.c_grammar.specs.Body.{look};
 ghost use Rattle.c_grammar.specs.Performing.{perform};
 ghost use Rattle.c_grammar.specs.Rules as rules;
 ghost use Rattle.c_grammar.specs.Rules.{statement_by, labelled_by};
-ghost use Rattle.expression_parser.specs.Gives.{Gives};
+ghost use Rattle.c_grammar.specs.Gives.{Gives};
 ghost use Rattle.statement_parser.specs.Parts as parts;
 ghost use Rattle.statement_parser.specs.Context.{view_context};
 
@@ -15,12 +15,10 @@ use crate::context::Context;
 use crate::local::declaration;
 use crate::optional::{optional, unboxed};
 use base_core::Lexeme;
-use c_grammar::{Cursor, Kind};
+use c_grammar::steps::{expect, name, refused, spend, word};
+use c_grammar::{Cursor, Kind, NameEnvironment, Refusal};
 use c_tree::{Expr, Stmt};
-use expression_parser::grammar::Types;
 use expression_parser::infix::infix_behind;
-use expression_parser::refusal::Refusal;
-use expression_parser::steps::{expect, name, refused, spend, word};
 use sqlite_items::Boxed;
 use std::alloc::Global;
 use type_parser::nest::{expression, rest};
@@ -29,7 +27,7 @@ use type_parser::nest::{expression, rest};
 #[tactic(auto, using(c_tree::proofs::StatementViewLemmas::view_Stmt_Expr))]
 pub fn expressed(
     alloc: Global,
-    types: &Types<'_>,
+    types: &NameEnvironment<'_>,
     cursor: &mut Cursor<'_>,
     d: u32,
     owed: u32,
@@ -47,7 +45,7 @@ pub fn expressed(
 #[tactic(auto, using(c_tree::proofs::ViewLemmas::view_Expr_Name, c_tree::proofs::StatementViewLemmas::view_Stmt_Expr))]
 fn named_expression(
     alloc: Global,
-    types: &Types<'_>,
+    types: &NameEnvironment<'_>,
     cursor: &mut Cursor<'_>,
     d: u32,
     name: Lexeme,
@@ -78,7 +76,7 @@ fn follows_name(kind: Kind) -> bool
 #[tactic(auto, using(c_tree::proofs::StatementViewLemmas::view_Stmt_Label))]
 fn labelled(
     alloc: Global,
-    types: &Types<'_>,
+    types: &NameEnvironment<'_>,
     cursor: &mut Cursor<'_>,
     d: u32,
     name: Lexeme,
@@ -104,7 +102,7 @@ fn labelled(
 /// A statement that begins with a name: directly in a block perhaps a label.
 pub fn named(
     alloc: Global,
-    types: &Types<'_>,
+    types: &NameEnvironment<'_>,
     cursor: &mut Cursor<'_>,
     d: u32,
     context: Context,
@@ -126,7 +124,7 @@ pub fn named(
 #[tactic(auto, using(c_tree::proofs::StatementViewLemmas::view_Stmt_Decl))]
 pub fn declared(
     alloc: Global,
-    types: &Types<'_>,
+    types: &NameEnvironment<'_>,
     cursor: &mut Cursor<'_>,
     d: u32,
     context: Context,
@@ -147,7 +145,7 @@ pub fn declared(
 #[tactic(auto, using(c_tree::proofs::StatementViewLemmas::view_Stmt_Expr))]
 pub fn empty(
     alloc: Global,
-    types: &Types<'_>,
+    types: &NameEnvironment<'_>,
     cursor: &mut Cursor<'_>,
     d: u32,
     context: Context,
@@ -165,7 +163,7 @@ pub fn empty(
 #[tactic(auto, using(c_tree::proofs::StatementViewLemmas::view_Stmt_Case))]
 pub fn case(
     alloc: Global,
-    types: &Types<'_>,
+    types: &NameEnvironment<'_>,
     cursor: &mut Cursor<'_>,
     d: u32,
     context: Context,
@@ -189,7 +187,7 @@ pub fn case(
 #[tactic(auto, using(c_tree::proofs::StatementViewLemmas::view_Stmt_Default))]
 pub fn default(
     alloc: Global,
-    types: &Types<'_>,
+    types: &NameEnvironment<'_>,
     cursor: &mut Cursor<'_>,
     d: u32,
     context: Context,
@@ -211,7 +209,7 @@ pub fn default(
 #[tactic(auto, using(c_tree::proofs::StatementViewLemmas::view_Stmt_Break))]
 pub fn break_out(
     alloc: Global,
-    types: &Types<'_>,
+    types: &NameEnvironment<'_>,
     cursor: &mut Cursor<'_>,
     d: u32,
     context: Context,
@@ -233,7 +231,7 @@ pub fn break_out(
 #[tactic(auto, using(c_tree::proofs::StatementViewLemmas::view_Stmt_Continue))]
 pub fn continue_on(
     alloc: Global,
-    types: &Types<'_>,
+    types: &NameEnvironment<'_>,
     cursor: &mut Cursor<'_>,
     d: u32,
     context: Context,
@@ -255,7 +253,7 @@ pub fn continue_on(
 #[tactic(auto, using(c_tree::proofs::StatementViewLemmas::view_Stmt_Return))]
 pub fn return_back(
     alloc: Global,
-    types: &Types<'_>,
+    types: &NameEnvironment<'_>,
     cursor: &mut Cursor<'_>,
     d: u32,
     context: Context,
@@ -275,7 +273,7 @@ pub fn return_back(
 #[tactic(auto, using(c_tree::proofs::StatementViewLemmas::view_Stmt_Goto))]
 pub fn go_to(
     alloc: Global,
-    types: &Types<'_>,
+    types: &NameEnvironment<'_>,
     cursor: &mut Cursor<'_>,
     d: u32,
     context: Context,

@@ -5,7 +5,7 @@ ghost use Rattle.c_tree.specs.StatementView.{view_statement};
 ghost use Rattle.c_grammar.specs.Performing.{perform};
 ghost use Rattle.c_grammar.specs.Reading.{read};
 ghost use Rattle.c_grammar.specs.Rules.{a_statement, statement_by};
-ghost use Rattle.expression_parser.specs.Gives.{Gives};
+ghost use Rattle.c_grammar.specs.Gives.{Gives};
 ghost use Rattle.statement_parser.specs.Nests.{Nests};
 ghost use Rattle.statement_parser.specs.Parts.{plain_by, simple_by};
 ghost use Rattle.statement_parser.specs.Context.{view_context};
@@ -14,18 +14,16 @@ use crate::context::Context;
 use crate::optional::begins_declaration;
 use crate::reader::{Found, Nested, Statements};
 use crate::simple;
-use c_grammar::{Cursor, Kind};
+use c_grammar::steps::kind;
+use c_grammar::{Cursor, Kind, NameEnvironment, Refusal};
 use c_tree::Stmt;
-use expression_parser::grammar::Types;
-use expression_parser::refusal::Refusal;
-use expression_parser::steps::kind;
 use sqlite_items::Boxed;
 use std::alloc::Global;
 
 /// A statement that no keyword begins, at a token of this kind.
 fn plain_statement(
     alloc: Global,
-    types: &Types<'_>,
+    types: &NameEnvironment<'_>,
     cursor: &mut Cursor<'_>,
     d: u32,
     context: Context,
@@ -51,7 +49,7 @@ fn plain_statement(
 /// A statement that holds no others, at a token of this kind.
 fn simple_statement(
     alloc: Global,
-    types: &Types<'_>,
+    types: &NameEnvironment<'_>,
     cursor: &mut Cursor<'_>,
     d: u32,
     context: Context,
@@ -75,7 +73,14 @@ fn simple_statement(
 }
 
 impl<
-    F: Fn(Global, &Types<'_>, &mut Cursor<'_>, usize, u32, Nested) -> Result<Found, Refusal>,
+    F: Fn(
+        Global,
+        &NameEnvironment<'_>,
+        &mut Cursor<'_>,
+        usize,
+        u32,
+        Nested,
+    ) -> Result<Found, Refusal>,
 > Statements<'_, F> {
     /// A statement at a token of this kind.
     fn begun(
@@ -103,7 +108,7 @@ impl<
     }
 
     /// A statement, whose first token makes so many nodes necessary besides its own.
-    #[tactic(auto, using(expression_parser::proofs::Opens::statement_performs))]
+    #[tactic(auto, using(c_grammar::proofs::Opens::statement_performs))]
     pub fn any(
         &self,
         cursor: &mut Cursor<'_>,

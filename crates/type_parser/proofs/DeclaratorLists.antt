@@ -13,16 +13,16 @@ use Rattle.c_grammar.specs.Gauge.{Meter}
 use Rattle.c_grammar.specs.Input.{Input, next}
 use Rattle.c_grammar.specs.Performing.{perform, at}
 use Rattle.c_grammar.specs.Reading.{read}
-use Rattle.c_grammar.specs.Rules.{Types, Reads, skip, all_quals, quals_by, all_stars, stars_by, all_sizes, sizes_by, size_by, at_most_one_size, at_most_one_by, one_size_by}
+use Rattle.c_grammar.specs.Rules.{NameEnvironment, Reads, skip, all_quals, quals_by, all_stars, stars_by, all_sizes, sizes_by, size_by, at_most_one_size, at_most_one_by, one_size_by}
 use Rattle.c_grammar.proofs.KindLemmas.{kind_end, same_true, same_false}
-use Rattle.expression_parser.specs.declared.refusal.Refusal.{Refusal}
-use Rattle.expression_parser.specs.Gives.{Fails}
-use Rattle.expression_parser.specs.Lists.{mapped, before}
+use Rattle.c_grammar.specs.declared.refusal.Refusal.{Refusal}
+use Rattle.c_grammar.specs.Gives.{Fails}
+use Rattle.c_grammar.specs.Lists.{mapped, before}
 use Rattle.expression_parser.specs.Pointers.{qualifier}
-use Rattle.expression_parser.proofs.Joining.{tail_mapped, same_mapped, Joins, join_skip, join_call, join_expect, then_fails, perform_leaves}
-use Rattle.expression_parser.proofs.Loops.{Turn, loop_err}
-use Rattle.expression_parser.proofs.Opens.{quals_performs, stars_performs, sizes_performs, at_most_one_size_performs}
-use Rattle.expression_parser.proofs.Shorter.{Leaves}
+use Rattle.c_grammar.proofs.Joining.{tail_mapped, same_mapped, Joins, join_skip, join_call, join_expect, then_fails, perform_leaves}
+use Rattle.c_grammar.proofs.Loops.{Turn, loop_err}
+use Rattle.c_grammar.proofs.Opens.{quals_performs, stars_performs, sizes_performs, at_most_one_size_performs}
+use Rattle.c_grammar.proofs.Shorter.{Leaves}
 use Rattle.type_parser.specs.DeclaratorParts.{star, sized, bracketed, bracketed_by}
 
 -- a token of a kind of its own is gone once it is taken
@@ -100,7 +100,7 @@ stars_shorter i j qs is e = skip_shorter (body.call all_quals done) i j qs (take
 
 -- ---- sizes
 
-module _ (t : Types) (d : ℕ) where
+module _ (t : NameEnvironment) (d : ℕ) where
   abbrev other_sizes : Option Expression → Reader Meter Sizes
   other_sizes v us m = mapped (sized v) (read (all_sizes t d) (at us m))
 
@@ -119,7 +119,7 @@ module _ (t : Types) (d : ℕ) where
   sizes_on i is =
       sizes_performs t d i
       ∙ ap (λ x. perform (sizes_by t d x) i) (same_true (kind [] i.rest) k.OpenBracket is)
-      ∙ (size_joined (kind t.names (next i).rest) (next i)).is
+      ∙ (size_joined (kind t.types (next i).rest) (next i)).is
       ∙ ap (λ o. and_then o other_sizes) (same_mapped (perform (bracketed t d) i))
 
   pub sizes_turn : (i j : Input) (v : Option Expression) → same_kind (kind [] i.rest) k.OpenBracket ≡ true → perform (bracketed t d) i ≡ got v j.rest j.meter →
@@ -130,7 +130,7 @@ module _ (t : Types) (d : ℕ) where
   sizes_fail i e is h = subst (λ o. Fails o e) (sym (sizes_on i is)) (then_fails other_sizes h)
 
   pub sizes_shorter : (i j : Input) (v : Option Expression) → same_kind (kind [] i.rest) k.OpenBracket ≡ true → perform (bracketed t d) i ≡ got v j.rest j.meter → length j.rest < length i.rest
-  sizes_shorter i j v is e = skip_shorter (body.look t.names (bracketed_by t d)) i j v (taken_tail i.rest k.OpenBracket is (λ e. absurd cc)) e
+  sizes_shorter i j v is e = skip_shorter (body.look t.types (bracketed_by t d)) i j v (taken_tail i.rest k.OpenBracket is (λ e. absurd cc)) e
 
   sizes_off : (x : Kind) → x ≢ k.OpenBracket → sizes_by t d x ≡ done no_sizes
   sizes_off k.OpenBracket other = absurd (other refl)
@@ -146,7 +146,7 @@ module _ (t : Types) (d : ℕ) where
 
   one_begun : (x : Kind) (i : Input) → perform (at_most_one_by t d x) i ≡ one_by x i
   one_begun k.OpenBracket i =
-      (one_joined (kind t.names (next i).rest) (next i)).is
+      (one_joined (kind t.types (next i).rest) (next i)).is
       ∙ ap (λ o. and_then o no_other) (same_mapped (perform (bracketed t d) i))
       ∙ tail_mapped (λ v. sized v no_sizes) (perform (bracketed t d) i)
   one_begun _ i = refl

@@ -13,17 +13,17 @@ use Rattle.c_grammar.specs.Body.{stop, look, Outcome, got, refused, exceeded, an
 use Rattle.c_grammar.specs.Gauge.{Meter, left, entered}
 use Rattle.c_grammar.specs.Input.{Input, next, metered}
 use Rattle.c_grammar.specs.Reading.{read}
-use Rattle.c_grammar.specs.Rules.{Types, Parameter, parameter_by, a_parameter, all_specifiers, all_stars, some_parameters, more_parameters, more_parameters_by, listed_parameters, barred}
+use Rattle.c_grammar.specs.Rules.{NameEnvironment, Parameter, parameter_by, a_parameter, all_specifiers, all_stars, some_parameters, more_parameters, more_parameters_by, listed_parameters, barred}
 use Rattle.c_grammar.proofs.KindLemmas.{kind_end, same_true, same_false}
-use Rattle.expression_parser.specs.declared.refusal.Refusal.{Refusal}
-use Rattle.expression_parser.specs.declared.refusal.Refusal.TheVariants.{Syntax}
-use Rattle.expression_parser.specs.Gives.{Fails}
-use Rattle.expression_parser.specs.Lists.{mapped, before}
-use Rattle.expression_parser.specs.Performing.{perform, at}
-use Rattle.expression_parser.proofs.Joining.{last, tail_mapped, then_fails, perform_leaves}
-use Rattle.expression_parser.proofs.Loops.{Turn}
-use Rattle.expression_parser.proofs.Opens.{parameter_performs, some_parameters_performs, more_parameters_performs}
-use Rattle.expression_parser.proofs.Shorter.{Leaves}
+use Rattle.c_grammar.specs.declared.refusal.Refusal.{Refusal}
+use Rattle.c_grammar.specs.declared.refusal.Refusal.TheVariants.{Syntax}
+use Rattle.c_grammar.specs.Gives.{Fails}
+use Rattle.c_grammar.specs.Lists.{mapped, before}
+use Rattle.c_grammar.specs.Performing.{perform, at}
+use Rattle.c_grammar.proofs.Joining.{last, tail_mapped, then_fails, perform_leaves}
+use Rattle.c_grammar.proofs.Loops.{Turn}
+use Rattle.c_grammar.proofs.Opens.{parameter_performs, some_parameters_performs, more_parameters_performs}
+use Rattle.c_grammar.proofs.Shorter.{Leaves}
 use Rattle.type_parser.specs.ParameterList.{is_void, is_one_void, listed, is_plain, only_void, with_parameter, one_parameter, another_parameter}
 
 -- ---- the word void
@@ -73,7 +73,7 @@ taken_tail : (ts : Tokens) (x : Kind) → same_kind (kind [] ts) x ≡ true → 
 taken_tail [] x is some = absurd (some (sym (same_true (kind [] []) x is) ∙ kind_end []))
 taken_tail (t ∷ ts) x is some = omega arith
 
-module _ (t : Types) (d : ℕ) where
+module _ (t : NameEnvironment) (d : ℕ) where
   abbrev others : Parameter → Reader Meter Parameters
   others p us m = mapped (with_parameter p) (read (more_parameters t d) (at us m))
 
@@ -125,7 +125,7 @@ module _ (t : Types) (d : ℕ) where
       subst (λ o. Fails o e) (sym h) (subst (λ r. Fails {B = Parameters} (refused i.rest) r) (sym is) f)
 
 -- a parameter whose specifiers and stars were read
-pub parameter_on : (t : Types) (d : ℕ) (i j l : Input) (ws : Specifiers) (ss : Stars) → read (all_specifiers t d false []) i ≡ got ws j.rest j.meter → read all_stars j ≡ got ss l.rest l.meter →
+pub parameter_on : (t : NameEnvironment) (d : ℕ) (i j l : Input) (ws : Specifiers) (ss : Stars) → read (all_specifiers t d false []) i ≡ got ws j.rest j.meter → read all_stars j ≡ got ss l.rest l.meter →
     read (a_parameter t d) i ≡ perform (look (barred t) (parameter_by t d ws ss)) l
 parameter_on t d i j l ws ss words stars =
     parameter_performs t d i

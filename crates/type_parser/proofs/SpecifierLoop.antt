@@ -12,23 +12,23 @@ use Rattle.c_grammar.specs.Gauge.{Meter, within, added}
 use Rattle.c_grammar.specs.Input.{Input, next, metered}
 use Rattle.c_grammar.specs.Reading.{read}
 use Rattle.c_grammar.specs.Rules as rules
-use Rattle.c_grammar.specs.Rules.{Reads, Types, skip, naming, all_specifiers, specifiers_by, ends_type, start_of, a_struct, an_enum}
+use Rattle.c_grammar.specs.Rules.{Reads, NameEnvironment, skip, naming, all_specifiers, specifiers_by, ends_type, start_of, a_struct, an_enum}
 use Rattle.c_grammar.proofs.KindLemmas.{kind_end}
-use Rattle.expression_parser.specs.declared.refusal.Refusal.{Refusal}
-use Rattle.expression_parser.specs.declared.refusal.Refusal.TheVariants.{Syntax}
-use Rattle.expression_parser.specs.Gives.{Fails}
-use Rattle.expression_parser.specs.Lists.{mapped, before}
-use Rattle.expression_parser.specs.Performing.{perform, at}
-use Rattle.expression_parser.proofs.Joining.{tail_mapped, then_fails, perform_leaves}
-use Rattle.expression_parser.proofs.Loops.{Turn, Loop, loop_begins}
-use Rattle.expression_parser.proofs.Opens.{specifiers_performs}
-use Rattle.expression_parser.proofs.Shorter.{Leaves, paid_leaves}
+use Rattle.c_grammar.specs.declared.refusal.Refusal.{Refusal}
+use Rattle.c_grammar.specs.declared.refusal.Refusal.TheVariants.{Syntax}
+use Rattle.c_grammar.specs.Gives.{Fails}
+use Rattle.c_grammar.specs.Lists.{mapped, before}
+use Rattle.c_grammar.specs.Performing.{perform, at}
+use Rattle.c_grammar.proofs.Joining.{tail_mapped, then_fails, perform_leaves}
+use Rattle.c_grammar.proofs.Loops.{Turn, Loop, loop_begins}
+use Rattle.c_grammar.proofs.Opens.{specifiers_performs}
+use Rattle.c_grammar.proofs.Shorter.{Leaves, paid_leaves}
 use Rattle.type_parser.specs.declared.words.Start.{Start}
 use Rattle.type_parser.specs.declared.words.Start.TheVariants as s
 use Rattle.type_parser.specs.declared.words.Word.TheVariants as w
 use Rattle.type_parser.specs.SpecifierWords.{a_specifier, is_type_word, stays, view_start, specifier_of, word_of, behind, goes_on, Follows, Ends, Goes}
 
-module _ (t : Types) (d : ℕ) where
+module _ (t : NameEnvironment) (d : ℕ) where
   -- the specifiers behind one of them
   abbrev others : Bool → List TypeWord → Specifier → Reader Meter Specifiers
   others b ws x us m = mapped (specifiers x) (read (all_specifiers t d b ws) (at us m))
@@ -82,21 +82,21 @@ module _ (t : Types) (d : ℕ) where
   goes_by b ws x i f is may =
       subst (λ f. goes_on ws f ≡ true → perform (specifiers_by t d b ws f) i ≡ and_then (perform (a_specifier t d b x) i) (others (stays b (view_start (Some x))) (behind ws (word_of f)))) (sym is) (goes b ws x i) may
 
-  specifiers_on : (i : Input) (b : Bool) (ws new : List TypeWord) (x : Start) → Follows (start_of (kind t.names i.rest)) ws x new →
+  specifiers_on : (i : Input) (b : Bool) (ws new : List TypeWord) (x : Start) → Follows (start_of (kind t.types i.rest)) ws x new →
       read (all_specifiers t d b ws) i ≡ and_then (perform (a_specifier t d b x) i) (others (stays b (view_start (Some x))) new)
   specifiers_on i b ws new x h =
-      specifiers_performs t d b ws i ∙ goes_by b ws x i (start_of (kind t.names i.rest)) h.start h.goes ∙
+      specifiers_performs t d b ws i ∙ goes_by b ws x i (start_of (kind t.types i.rest)) h.start h.goes ∙
       ap (λ z. and_then (perform (a_specifier t d b x) i) (others (stays b (view_start (Some x))) z)) (sym h.added)
 
   -- one more specifier, and the others
-  pub specifiers_turn : (i j : Input) (b c : Bool) (ws new : List TypeWord) (x : Start) (v : Specifier) → Follows (start_of (kind t.names i.rest)) ws x new →
+  pub specifiers_turn : (i j : Input) (b c : Bool) (ws new : List TypeWord) (x : Start) (v : Specifier) → Follows (start_of (kind t.types i.rest)) ws x new →
       perform (a_specifier t d b x) i ≡ got v j.rest j.meter → c ≡ stays b (view_start (Some x)) →
       Turn specifiers v (read (all_specifiers t d b ws) i) (read (all_specifiers t d c new) j)
   specifiers_turn i j b c ws new x v h e same = record {
     is = specifiers_on i b ws new x h ∙ ap (λ o. and_then o (others (stays b (view_start (Some x))) new)) e ∙ ap (λ z. mapped (specifiers v) (read (all_specifiers t d z new) j)) (sym same);
   }
 
-  pub specifiers_fail : (i : Input) (b : Bool) (ws new : List TypeWord) (x : Start) (e : Refusal) → Follows (start_of (kind t.names i.rest)) ws x new → Fails (perform (a_specifier t d b x) i) e →
+  pub specifiers_fail : (i : Input) (b : Bool) (ws new : List TypeWord) (x : Start) (e : Refusal) → Follows (start_of (kind t.types i.rest)) ws x new → Fails (perform (a_specifier t d b x) i) e →
       Fails (read (all_specifiers t d b ws) i) e
   specifiers_fail i b ws new x e h f = subst (λ o. Fails o e) (sym (specifiers_on i b ws new x h)) (then_fails (others (stays b (view_start (Some x))) new) f)
 
@@ -114,14 +114,14 @@ module _ (t : Types) (d : ℕ) where
   off b ws rules.a_struct_word may = no_more _ _ _ may
   off b ws rules.an_enum_word may = no_more _ _ _ may
 
-  ended : (c : Bool) (ws : List TypeWord) (i : Input) (b : Bool) → is_one_type ws ≡ b → goes_on ws (start_of (kind t.names i.rest)) ≡ false →
+  ended : (c : Bool) (ws : List TypeWord) (i : Input) (b : Bool) → is_one_type ws ≡ b → goes_on ws (start_of (kind t.types i.rest)) ≡ false →
       read (all_specifiers t d c ws) i ≡ perform (cond b (done no_specifiers) stop) i
-  ended c ws i b is may = specifiers_performs t d c ws i ∙ ap (λ z. perform z i) (off c ws (start_of (kind t.names i.rest)) may) ∙ ap (λ z. perform (cond z (done no_specifiers) stop) i) is
+  ended c ws i b is may = specifiers_performs t d c ws i ∙ ap (λ z. perform z i) (off c ws (start_of (kind t.types i.rest)) may) ∙ ap (λ z. perform (cond z (done no_specifiers) stop) i) is
 
-  pub specifiers_end : (i : Input) (c : Bool) (ws : List TypeWord) → goes_on ws (start_of (kind t.names i.rest)) ≡ false → is_one_type ws ≡ true → read (all_specifiers t d c ws) i ≡ got no_specifiers i.rest i.meter
+  pub specifiers_end : (i : Input) (c : Bool) (ws : List TypeWord) → goes_on ws (start_of (kind t.types i.rest)) ≡ false → is_one_type ws ≡ true → read (all_specifiers t d c ws) i ≡ got no_specifiers i.rest i.meter
   specifiers_end i c ws may is = ended c ws i true is may
 
-  pub specifiers_stop : (i : Input) (c : Bool) (ws : List TypeWord) (e : Refusal) → goes_on ws (start_of (kind t.names i.rest)) ≡ false → is_one_type ws ≡ false → e ≡ Syntax (length i.rest) →
+  pub specifiers_stop : (i : Input) (c : Bool) (ws : List TypeWord) (e : Refusal) → goes_on ws (start_of (kind t.types i.rest)) ≡ false → is_one_type ws ≡ false → e ≡ Syntax (length i.rest) →
       Fails (read (all_specifiers t d c ws) i) e
   specifiers_stop i c ws e may is syntax =
       let f : Fails {B = Specifiers} (refused i.rest) (Syntax (length i.rest)) = record { says = refl } in
@@ -139,13 +139,13 @@ module _ (t : Types) (d : ℕ) where
   specifier_leaves n b s.Struct i h = perform_leaves n (body.call (a_struct t d) done) (next i) h
   specifier_leaves n b s.Enum i h = perform_leaves n (body.call (an_enum t d) done) (next i) h
 
-  tail_shorter : (ws : List TypeWord) (ts : Tokens) → goes_on ws (start_of (kind t.names ts)) ≡ true → length (tail_of ts) < length ts
+  tail_shorter : (ws : List TypeWord) (ts : Tokens) → goes_on ws (start_of (kind t.types ts)) ≡ true → length (tail_of ts) < length ts
   tail_shorter ws [] may =
-      let e : false ≡ true = sym (ap (λ z. goes_on ws (start_of z)) (kind_end t.names)) ∙ may in
+      let e : false ≡ true = sym (ap (λ z. goes_on ws (start_of z)) (kind_end t.types)) ∙ may in
       absurd cc
   tail_shorter ws (y ∷ ts) may = omega arith
 
-  pub specifiers_shorter : (i j : Input) (b : Bool) (ws new : List TypeWord) (x : Start) (v : Specifier) → Follows (start_of (kind t.names i.rest)) ws x new → perform (a_specifier t d b x) i ≡ got v j.rest j.meter →
+  pub specifiers_shorter : (i j : Input) (b : Bool) (ws new : List TypeWord) (x : Start) (v : Specifier) → Follows (start_of (kind t.types i.rest)) ws x new → perform (a_specifier t d b x) i ≡ got v j.rest j.meter →
       length j.rest < length i.rest
   specifiers_shorter i j b ws new x v h e =
       let l : length j.rest ≤ length (tail_of i.rest) = subst (λ o. Leaves (length (tail_of i.rest)) o) e (specifier_leaves (length (tail_of i.rest)) b x i (omega arith)) in
@@ -164,7 +164,7 @@ pub ends_here : (here there : Kind) (old new : List TypeWord) (o : Option Start)
 ends_here here there old new o h none is = subst (λ z. Ends (start_of z) old new) is (subst (λ z. Goes (start_of here) old z new) none h)
 
 -- nothing was read
-pub specifiers_begin : (t : Types) (d : ℕ) (b : Bool) (i : Input) (ws : List TypeWord) (xs : List Specifier) → xs ≡ [] → ws ≡ [] →
+pub specifiers_begin : (t : NameEnvironment) (d : ℕ) (b : Bool) (i : Input) (ws : List TypeWord) (xs : List Specifier) → xs ≡ [] → ws ≡ [] →
     Loop specifiers xs (read (all_specifiers t d b ws) i) (read (all_specifiers t d b []) i)
 specifiers_begin t d b i ws xs none first =
     subst (λ z. Loop specifiers xs (read (all_specifiers t d b z) i) (read (all_specifiers t d b []) i)) (sym first) (loop_begins xs (read (all_specifiers t d b []) i) none)

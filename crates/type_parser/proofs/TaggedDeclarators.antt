@@ -9,20 +9,20 @@ use Rattle.c_grammar.specs.Body.{done, got, and_then, Reader}
 use Rattle.c_grammar.specs.Gauge.{Meter}
 use Rattle.c_grammar.specs.Input.{Input}
 use Rattle.c_grammar.specs.Reading.{read}
-use Rattle.c_grammar.specs.Rules.{Types, more_declarators, more_declarators_by}
+use Rattle.c_grammar.specs.Rules.{NameEnvironment, more_declarators, more_declarators_by}
 use Rattle.c_grammar.proofs.KindLemmas.{same_true, same_false}
-use Rattle.expression_parser.specs.declared.refusal.Refusal.{Refusal}
-use Rattle.expression_parser.specs.Gives.{Fails}
-use Rattle.expression_parser.specs.Lists.{mapped, before}
-use Rattle.expression_parser.specs.Performing.{perform, at}
-use Rattle.expression_parser.proofs.Joining.{tail_mapped, same_mapped, Joins, join_spend, join_skip, join_call, then_fails, spent_taken, Leaving}
-use Rattle.expression_parser.proofs.Loops.{Turn}
-use Rattle.expression_parser.proofs.Opens.{more_declarators_performs}
-use Rattle.expression_parser.proofs.Shorter.{Leaves}
+use Rattle.c_grammar.specs.declared.refusal.Refusal.{Refusal}
+use Rattle.c_grammar.specs.Gives.{Fails}
+use Rattle.c_grammar.specs.Lists.{mapped, before}
+use Rattle.c_grammar.specs.Performing.{perform, at}
+use Rattle.c_grammar.proofs.Joining.{tail_mapped, same_mapped, Joins, join_spend, join_skip, join_call, then_fails, spent_taken, Leaving}
+use Rattle.c_grammar.proofs.Loops.{Turn}
+use Rattle.c_grammar.proofs.Opens.{more_declarators_performs}
+use Rattle.c_grammar.proofs.Shorter.{Leaves}
 use Rattle.type_parser.specs.Tagged.{another_declarator}
 use Rattle.type_parser.proofs.TaggedShorter.{taken_shorter}
 
-module _ (t : Types) (d : ℕ) where
+module _ (t : NameEnvironment) (d : ℕ) where
   abbrev others : DeclaratorTree → Reader Meter Declarators
   others x us m = mapped (declarators x) (read (more_declarators t d) (at us m))
 

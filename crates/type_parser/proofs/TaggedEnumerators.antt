@@ -10,14 +10,14 @@ use Rattle.c_grammar.specs.Body as body
 use Rattle.c_grammar.specs.Gauge.{Meter, within, added}
 use Rattle.c_grammar.specs.Input.{Input, next, metered}
 use Rattle.c_grammar.specs.Reading.{read}
-use Rattle.c_grammar.specs.Rules.{Types, rule, all_enumerators, more_enumerators, enumerator_by, more_enumerators_by, next_enumerator_by, barred}
-use Rattle.expression_parser.specs.declared.refusal.Refusal.{Refusal}
-use Rattle.expression_parser.specs.Gives.{Fails}
-use Rattle.expression_parser.specs.Lists.{mapped, before}
-use Rattle.expression_parser.specs.Performing.{perform, at}
-use Rattle.expression_parser.proofs.Joining.{same_mapped, Joins, join_spend, join_skip, join_call, join_name, then_fails}
-use Rattle.expression_parser.proofs.Loops.{Turn}
-use Rattle.expression_parser.proofs.Opens.{enumerators_performs, more_enumerators_performs}
+use Rattle.c_grammar.specs.Rules.{NameEnvironment, rule, all_enumerators, more_enumerators, enumerator_by, more_enumerators_by, next_enumerator_by, barred}
+use Rattle.c_grammar.specs.declared.refusal.Refusal.{Refusal}
+use Rattle.c_grammar.specs.Gives.{Fails}
+use Rattle.c_grammar.specs.Lists.{mapped, before}
+use Rattle.c_grammar.specs.Performing.{perform, at}
+use Rattle.c_grammar.proofs.Joining.{same_mapped, Joins, join_spend, join_skip, join_call, join_name, then_fails}
+use Rattle.c_grammar.proofs.Loops.{Turn}
+use Rattle.c_grammar.proofs.Opens.{enumerators_performs, more_enumerators_performs}
 use Rattle.type_parser.specs.Tagged.{OneEnumerator, one_enumerator, valued_by, behind_enumerator_by, next_by, with_enumerator}
 use Rattle.type_parser.proofs.TaggedShorter.{Under, name_under}
 
@@ -26,7 +26,7 @@ tail_twice g (got v us m) = refl
 tail_twice g (refused us) = refl
 tail_twice g (exceeded us) = refl
 
-module _ (t : Types) (d : ℕ) where
+module _ (t : NameEnvironment) (d : ℕ) where
   abbrev others : OneEnumerator → Reader Meter (Enumerators × Bool)
   others (x, None) us m = mapped (with_enumerator x) (read (all_enumerators t d) (at us m))
   others (x, Some b) us m = got (with_enumerator x (no_enumerators, b)) us m

@@ -10,15 +10,15 @@ use Rattle.c_grammar.specs.Body as body
 use Rattle.c_grammar.specs.Gauge.{Meter, within, added}
 use Rattle.c_grammar.specs.Input.{Input, next, metered}
 use Rattle.c_grammar.specs.Reading.{read}
-use Rattle.c_grammar.specs.Rules.{Types, rule, begins_type, all_specifiers, all_declarators, all_members, more_members, more_members_by, expect}
-use Rattle.expression_parser.specs.declared.refusal.Refusal.{Refusal}
-use Rattle.expression_parser.specs.Gives.{Fails}
-use Rattle.expression_parser.specs.Lists.{mapped, before}
-use Rattle.expression_parser.specs.Performing.{perform, at}
-use Rattle.expression_parser.proofs.Joining.{same_mapped, Joins, join_call, join_expect, then_fails}
-use Rattle.expression_parser.proofs.Loops.{Turn}
-use Rattle.expression_parser.proofs.Opens.{members_performs, more_members_performs}
-use Rattle.expression_parser.proofs.Shorter.{read_leaves}
+use Rattle.c_grammar.specs.Rules.{NameEnvironment, rule, begins_type, all_specifiers, all_declarators, all_members, more_members, more_members_by, expect}
+use Rattle.c_grammar.specs.declared.refusal.Refusal.{Refusal}
+use Rattle.c_grammar.specs.Gives.{Fails}
+use Rattle.c_grammar.specs.Lists.{mapped, before}
+use Rattle.c_grammar.specs.Performing.{perform, at}
+use Rattle.c_grammar.proofs.Joining.{same_mapped, Joins, join_call, join_expect, then_fails}
+use Rattle.c_grammar.proofs.Loops.{Turn}
+use Rattle.c_grammar.proofs.Opens.{members_performs, more_members_performs}
+use Rattle.c_grammar.proofs.Shorter.{read_leaves}
 use Rattle.type_parser.specs.Tagged.{OneMember, one_member, behind_member_by, with_member}
 use Rattle.type_parser.proofs.TaggedShorter.{Under, then_under, expect_under}
 
@@ -27,7 +27,7 @@ tail_twice g (got v us m) = refl
 tail_twice g (refused us) = refl
 tail_twice g (exceeded us) = refl
 
-module _ (t : Types) (d : ℕ) where
+module _ (t : NameEnvironment) (d : ℕ) where
   abbrev others : OneMember → Reader Meter Members
   others (x, true) us m = got (with_member x no_members) us m
   others (x, false) us m = mapped (with_member x) (read (all_members t d) (at us m))
@@ -49,9 +49,9 @@ module _ (t : Types) (d : ℕ) where
   behind_by x k.CloseBrace j = refl
   behind_by x y j = begins_on x (begins_type y) j
 
-  behind_on : {x : Specifiers × Declarators} {j : Input} → Joins (λ y. y) others (body.call (more_members t d) (λ ms. done (with_member x ms))) (look t.names (behind_member_by t d x)) j
+  behind_on : {x : Specifiers × Declarators} {j : Input} → Joins (λ y. y) others (body.call (more_members t d) (λ ms. done (with_member x ms))) (look t.types (behind_member_by t d x)) j
   behind_on {x = x} {j = j} =
-      record { is = ap (λ o. and_then o (λ ms us m. got (with_member x ms) us m)) (more_members_performs t d j) ∙ behind_by x (kind t.names j.rest) j }
+      record { is = ap (λ o. and_then o (λ ms us m. got (with_member x ms) us m)) (more_members_performs t d j) ∙ behind_by x (kind t.types j.rest) j }
 
   members_on : (i : Input) → read (all_members t d) i ≡ and_then (perform (one_member t d) i) others
   members_on i =
@@ -61,12 +61,12 @@ module _ (t : Types) (d : ℕ) where
 
   -- its specifiers, its declarators and its semicolon
   pub member_parts : (i j l n : Input) (ws : Specifiers) (cs : Declarators) → read (all_specifiers t d false []) i ≡ got ws j.rest j.meter → read (all_declarators t d) j ≡ got cs l.rest l.meter →
-      same_kind (kind [] l.rest) k.Semicolon ≡ true → n ≡ next l → perform (one_member t d) i ≡ perform (look t.names (behind_member_by t d (ws, cs))) n
+      same_kind (kind [] l.rest) k.Semicolon ≡ true → n ≡ next l → perform (one_member t d) i ≡ perform (look t.types (behind_member_by t d (ws, cs))) n
   member_parts i j l n ws cs first second is go =
-      ap (λ o. and_then o (λ v us m. and_then (read (all_declarators t d) (at us m)) (λ w vs q. perform (expect k.Semicolon (look t.names (behind_member_by t d (v, w)))) (at vs q)))) first
-      ∙ ap (λ o. and_then o (λ w vs q. perform (expect k.Semicolon (look t.names (behind_member_by t d (ws, w)))) (at vs q))) second
-      ∙ ap (λ b. perform (if b then take (λ z. look t.names (behind_member_by t d (ws, cs))) else stop) l) is
-      ∙ ap (λ z. perform (look t.names (behind_member_by t d (ws, cs))) z) (sym go)
+      ap (λ o. and_then o (λ v us m. and_then (read (all_declarators t d) (at us m)) (λ w vs q. perform (expect k.Semicolon (look t.types (behind_member_by t d (v, w)))) (at vs q)))) first
+      ∙ ap (λ o. and_then o (λ w vs q. perform (expect k.Semicolon (look t.types (behind_member_by t d (ws, w)))) (at vs q))) second
+      ∙ ap (λ b. perform (if b then take (λ z. look t.types (behind_member_by t d (ws, cs))) else stop) l) is
+      ∙ ap (λ z. perform (look t.types (behind_member_by t d (ws, cs))) z) (sym go)
 
   -- one member more
   pub members_turn : (i j : Input) (x : Specifiers × Declarators) → perform (one_member t d) i ≡ got (x, false) j.rest j.meter → Turn with_member x (read (all_members t d) i) (read (all_members t d) j)
@@ -82,7 +82,7 @@ module _ (t : Types) (d : ℕ) where
   member_under : (n : ℕ) (i : Input) → length i.rest ≤ n → Under n (perform (one_member t d) i)
   member_under n i less =
       then_under n (read (all_specifiers t d false []) i) _ (read_leaves n (all_specifiers t d false []) i less)
-      (λ ws us m p. then_under n (read (all_declarators t d) (at us m)) _ (read_leaves n (all_declarators t d) (at us m) p) (λ cs vs q r. expect_under n k.Semicolon (look t.names (behind_member_by t d (ws, cs))) (at vs q) (λ e. absurd cc) r))
+      (λ ws us m p. then_under n (read (all_declarators t d) (at us m)) _ (read_leaves n (all_declarators t d) (at us m) p) (λ cs vs q r. expect_under n k.Semicolon (look t.types (behind_member_by t d (ws, cs))) (at vs q) (λ e. absurd cc) r))
 
   pub members_shorter : (i j : Input) (x : OneMember) → perform (one_member t d) i ≡ got x j.rest j.meter → length j.rest < length i.rest
   members_shorter i j x e = subst (λ o. Under (length i.rest) o) e (member_under (length i.rest) i (omega arith))

@@ -9,9 +9,9 @@ use Rattle.c_grammar.specs.Body.{take, stop, Outcome, got, refused, exceeded, an
 use Rattle.c_grammar.specs.Input.{Input, next}
 use Rattle.c_grammar.specs.Rules.{Reads, expect, named_by}
 use Rattle.c_grammar.proofs.KindLemmas.{kind_end, same_true}
-use Rattle.expression_parser.specs.Performing.{perform}
-use Rattle.expression_parser.proofs.Joining.{perform_leaves}
-use Rattle.expression_parser.proofs.Shorter.{Leaves}
+use Rattle.c_grammar.specs.Performing.{perform}
+use Rattle.c_grammar.proofs.Joining.{perform_leaves}
+use Rattle.c_grammar.proofs.Shorter.{Leaves}
 
 -- fewer tokens are left
 abbrev pub Under : {X A : Type 0} → ℕ → Outcome X A → Type 0

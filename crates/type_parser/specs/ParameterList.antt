@@ -5,7 +5,7 @@ use Rattle.c_tree.specs.View.{parameters_of}
 use Rattle.c_grammar.specs.declared.kind.Kind.TheVariants as k
 use Rattle.c_grammar.specs.Body.{done, look, scope}
 use Rattle.c_grammar.specs.Body as body
-use Rattle.c_grammar.specs.Rules.{Types, Reads, Parameter, skip, expect, barred, a_parameter, all_quals, parameter_pointer_by, listed_parameters}
+use Rattle.c_grammar.specs.Rules.{NameEnvironment, Reads, Parameter, skip, expect, barred, a_parameter, all_quals, parameter_pointer_by, listed_parameters}
 
 -- the word void
 abbrev pub is_void_word : Specifier → Bool
@@ -39,13 +39,13 @@ abbrev pub with_parameter : Specifiers × ParameterForm → Parameters → Param
 with_parameter p ps = parameters p.0 p.1 ps
 
 -- one parameter, in its own scope
-abbrev pub one_parameter : Types → ℕ → Reads Parameter
+abbrev pub one_parameter : NameEnvironment → ℕ → Reads Parameter
 one_parameter t d = scope d (a_parameter t d) done
 
 -- one more, behind a comma
-abbrev pub another_parameter : Types → ℕ → Reads Parameter
+abbrev pub another_parameter : NameEnvironment → ℕ → Reads Parameter
 another_parameter t d = skip (scope d (a_parameter t d) done)
 
 -- behind the bracket of a pointer to a function
-abbrev pub inner_by : Types → ℕ → Specifiers → Stars → Reads Parameter
+abbrev pub inner_by : NameEnvironment → ℕ → Specifiers → Stars → Reads Parameter
 inner_by t d ws ss = expect k.Star (body.call all_quals (λ qs. look (barred t) (parameter_pointer_by t d ws ss qs)))

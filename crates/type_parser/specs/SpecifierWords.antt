@@ -5,7 +5,7 @@ use Rattle.c_tree.specs.TypeWords as words
 use Rattle.c_grammar.specs.Body.{done, take}
 use Rattle.c_grammar.specs.Body as body
 use Rattle.c_grammar.specs.Rules as rules
-use Rattle.c_grammar.specs.Rules.{Types, Reads, skip, naming, a_struct, an_enum}
+use Rattle.c_grammar.specs.Rules.{NameEnvironment, Reads, skip, naming, a_struct, an_enum}
 use Rattle.type_parser.specs.declared.words.Word.{Word}
 use Rattle.type_parser.specs.declared.words.Word.TheVariants as w
 use Rattle.type_parser.specs.declared.words.TypeWord.{TypeWord}
@@ -120,7 +120,7 @@ stays b (rules.a_qualifier x) = b
 stays b _ = false
 
 -- one specifier
-abbrev pub a_specifier : Types → ℕ → Bool → Start → Reads c.Specifier
+abbrev pub a_specifier : NameEnvironment → ℕ → Bool → Start → Reads c.Specifier
 a_specifier t d b (s.Word x) = naming (is_type_word x && b) d (skip (done (specifier_of x)))
 a_specifier t d b s.TypeName = naming b d (take (λ n. done (c.type_name n)))
 a_specifier t d b s.Struct = skip (body.call (a_struct t d) done)

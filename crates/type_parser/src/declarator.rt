@@ -6,23 +6,29 @@ ghost use Rattle.c_grammar.specs.Body.{look};
 ghost use Rattle.c_grammar.specs.Performing.{perform};
 ghost use Rattle.c_grammar.specs.Reading.{read};
 ghost use Rattle.c_grammar.specs.Rules.{all_sizes, at_most_one_size, a_declarator, a_bare, a_new_name, declared_by, pointed};
-ghost use Rattle.expression_parser.specs.Gives.{Gives};
+ghost use Rattle.c_grammar.specs.Gives.{Gives};
 ghost use Rattle.expression_parser.specs.Nests.{Nests};
 ghost use Rattle.type_parser.specs.DeclaratorParts.{bracketed, pointer_from, bare_pointer_from};
 
 use crate::pointer::{quals, stars};
 use base_core::Lexeme;
-use c_grammar::{Cursor, Kind, same_kind};
+use c_grammar::steps::{expect, kind, new_kind, refused, word};
+use c_grammar::{Cursor, Kind, NameEnvironment, Refusal, same_kind};
 use c_tree::{Bare, Declarator, Expr, Quals, Stars};
-use expression_parser::grammar::{Found, Grammar, Nested, Types};
-use expression_parser::refusal::Refusal;
-use expression_parser::steps::{expect, kind, new_kind, refused, word};
+use expression_parser::grammar::{Found, Grammar, Nested};
 use sqlite_items::{Boxed, Items};
 use std::alloc::Global;
 
 /// A size in its brackets, or the brackets alone.
 fn bracketed<
-    F: Fn(Global, &Types<'_>, &mut Cursor<'_>, usize, u32, Nested) -> Result<Found, Refusal>,
+    F: Fn(
+        Global,
+        &NameEnvironment<'_>,
+        &mut Cursor<'_>,
+        usize,
+        u32,
+        Nested,
+    ) -> Result<Found, Refusal>,
 >(grammar: &Grammar<'_, F>, cursor: &mut Cursor<'_>, d: u32) -> Result<Option<Expr>, Refusal>
     requires nests { Nests grammar.now.budget (F.pre grammar.now.read) (F.post grammar.now.read) }
     requires small { d ≤ 1001 }
@@ -44,7 +50,14 @@ fn bracketed<
 
 /// The sizes of an array.
 pub fn sizes<
-    F: Fn(Global, &Types<'_>, &mut Cursor<'_>, usize, u32, Nested) -> Result<Found, Refusal>,
+    F: Fn(
+        Global,
+        &NameEnvironment<'_>,
+        &mut Cursor<'_>,
+        usize,
+        u32,
+        Nested,
+    ) -> Result<Found, Refusal>,
 >(grammar: &Grammar<'_, F>, cursor: &mut Cursor<'_>, d: u32) -> Result<Items<Option<Expr>>, Refusal>
     requires nests { Nests grammar.now.budget (F.pre grammar.now.read) (F.post grammar.now.read) }
     requires small { d ≤ 1001 }
@@ -60,7 +73,14 @@ pub fn sizes<
 /// The size of an array of pointers to functions, if there is one.
 #[tactic(auto, using(crate::proofs::DeclaratorLists::one_begins, crate::proofs::DeclaratorLists::one_size_of))]
 pub fn one_size<
-    F: Fn(Global, &Types<'_>, &mut Cursor<'_>, usize, u32, Nested) -> Result<Found, Refusal>,
+    F: Fn(
+        Global,
+        &NameEnvironment<'_>,
+        &mut Cursor<'_>,
+        usize,
+        u32,
+        Nested,
+    ) -> Result<Found, Refusal>,
 >(grammar: &Grammar<'_, F>, cursor: &mut Cursor<'_>, d: u32) -> Result<Items<Option<Expr>>, Refusal>
     requires nests { Nests grammar.now.budget (F.pre grammar.now.read) (F.post grammar.now.read) }
     requires small { d ≤ 1001 }
@@ -80,7 +100,14 @@ pub fn one_size<
 /// Behind the stars and the name of a declarator.
 #[tactic(auto, using(c_tree::proofs::ViewLemmas::view_Declarator_Plain, c_tree::proofs::ViewLemmas::view_Declarator_Array, c_tree::proofs::ViewLemmas::view_Declarator_Function))]
 pub fn declared<
-    F: Fn(Global, &Types<'_>, &mut Cursor<'_>, usize, u32, Nested) -> Result<Found, Refusal>,
+    F: Fn(
+        Global,
+        &NameEnvironment<'_>,
+        &mut Cursor<'_>,
+        usize,
+        u32,
+        Nested,
+    ) -> Result<Found, Refusal>,
 >(
     grammar: &Grammar<'_, F>,
     cursor: &mut Cursor<'_>,
@@ -115,7 +142,14 @@ pub fn declared<
 /// Behind the name of a pointer to a function.
 #[tactic(auto, using(c_tree::proofs::ViewLemmas::view_Declarator_Pointer))]
 pub fn pointed<
-    F: Fn(Global, &Types<'_>, &mut Cursor<'_>, usize, u32, Nested) -> Result<Found, Refusal>,
+    F: Fn(
+        Global,
+        &NameEnvironment<'_>,
+        &mut Cursor<'_>,
+        usize,
+        u32,
+        Nested,
+    ) -> Result<Found, Refusal>,
 >(
     grammar: &Grammar<'_, F>,
     cursor: &mut Cursor<'_>,
@@ -137,7 +171,16 @@ pub fn pointed<
 }
 
 /// Behind the star of a pointer to a function and its qualifiers: its name, and what follows.
-fn named<F: Fn(Global, &Types<'_>, &mut Cursor<'_>, usize, u32, Nested) -> Result<Found, Refusal>>(
+fn named<
+    F: Fn(
+        Global,
+        &NameEnvironment<'_>,
+        &mut Cursor<'_>,
+        usize,
+        u32,
+        Nested,
+    ) -> Result<Found, Refusal>,
+>(
     grammar: &Grammar<'_, F>,
     cursor: &mut Cursor<'_>,
     d: u32,
@@ -159,7 +202,14 @@ fn named<F: Fn(Global, &Types<'_>, &mut Cursor<'_>, usize, u32, Nested) -> Resul
 
 /// Behind the bracket of a pointer to a function.
 pub fn pointer<
-    F: Fn(Global, &Types<'_>, &mut Cursor<'_>, usize, u32, Nested) -> Result<Found, Refusal>,
+    F: Fn(
+        Global,
+        &NameEnvironment<'_>,
+        &mut Cursor<'_>,
+        usize,
+        u32,
+        Nested,
+    ) -> Result<Found, Refusal>,
 >(
     grammar: &Grammar<'_, F>,
     cursor: &mut Cursor<'_>,
@@ -176,9 +226,16 @@ pub fn pointer<
 }
 
 /// A declarator, perhaps of a function, and not of a type.
-#[tactic(auto, using(expression_parser::proofs::Opens::declarator_performs))]
+#[tactic(auto, using(c_grammar::proofs::Opens::declarator_performs))]
 pub fn declarator<
-    F: Fn(Global, &Types<'_>, &mut Cursor<'_>, usize, u32, Nested) -> Result<Found, Refusal>,
+    F: Fn(
+        Global,
+        &NameEnvironment<'_>,
+        &mut Cursor<'_>,
+        usize,
+        u32,
+        Nested,
+    ) -> Result<Found, Refusal>,
 >(
     grammar: &Grammar<'_, F>,
     cursor: &mut Cursor<'_>,
@@ -206,7 +263,14 @@ pub fn declarator<
 /// Behind the bracket of a pointer to a function without a name.
 #[tactic(auto, using(c_tree::proofs::ViewLemmas::view_Bare_Pointer))]
 fn bare_pointer<
-    F: Fn(Global, &Types<'_>, &mut Cursor<'_>, usize, u32, Nested) -> Result<Found, Refusal>,
+    F: Fn(
+        Global,
+        &NameEnvironment<'_>,
+        &mut Cursor<'_>,
+        usize,
+        u32,
+        Nested,
+    ) -> Result<Found, Refusal>,
 >(grammar: &Grammar<'_, F>, cursor: &mut Cursor<'_>, d: u32, stars: Stars) -> Result<Bare, Refusal>
     requires nests { Nests grammar.now.budget (F.pre grammar.now.read) (F.post grammar.now.read) }
     requires small { d ≤ 1001 }
@@ -221,9 +285,16 @@ fn bare_pointer<
 }
 
 /// The stars of a type without a name, or a pointer to a function.
-#[tactic(auto, using(expression_parser::proofs::Opens::bare_performs, c_tree::proofs::ViewLemmas::view_Bare_Plain))]
+#[tactic(auto, using(c_grammar::proofs::Opens::bare_performs, c_tree::proofs::ViewLemmas::view_Bare_Plain))]
 pub fn bare<
-    F: Fn(Global, &Types<'_>, &mut Cursor<'_>, usize, u32, Nested) -> Result<Found, Refusal>,
+    F: Fn(
+        Global,
+        &NameEnvironment<'_>,
+        &mut Cursor<'_>,
+        usize,
+        u32,
+        Nested,
+    ) -> Result<Found, Refusal>,
 >(grammar: &Grammar<'_, F>, cursor: &mut Cursor<'_>, d: u32) -> Result<Bare, Refusal>
     requires nests { Nests grammar.now.budget (F.pre grammar.now.read) (F.post grammar.now.read) }
     requires small { d ≤ 1001 }

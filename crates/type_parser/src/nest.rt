@@ -6,19 +6,17 @@ ghost use Rattle.c_grammar.specs.Body.{look};
 ghost use Rattle.c_grammar.specs.Performing.{perform};
 ghost use Rattle.c_grammar.specs.Reading.{read};
 ghost use Rattle.c_grammar.specs.Rules.{an_expression, a_rest, all_specifiers, a_declarator, all_sizes, all_parameters, a_new_name, declared_by, inside};
-ghost use Rattle.expression_parser.specs.Gives.{Gives};
+ghost use Rattle.c_grammar.specs.Gives.{Gives};
 ghost use Rattle.expression_parser.specs.Nests.{Finds, IsSmall};
 ghost use Rattle.type_parser.specs.DeclaratorParts.{pointer_from, type_pointed, type_pointer_from};
 
 use crate::pointer::{quals, stars};
 use crate::{declarator, parameter, specifier, tagged};
 use base_core::Lexeme;
-use c_grammar::{Cursor, Kind};
+use c_grammar::steps::{expect, new_kind, refused, word};
+use c_grammar::{Cursor, Kind, NameEnvironment, Names, Refusal};
 use c_tree::{Declarator, Expr, Params, Quals, Specs, Stars};
-use expression_parser::grammar::{Found, Grammar, Nested, Types};
-use expression_parser::refusal::Refusal;
-use expression_parser::steps::{expect, new_kind, refused, word};
-use program_scope::Names;
+use expression_parser::grammar::{Found, Grammar, Nested};
 use sqlite_items::{Boxed, Items};
 use std::alloc::{AllocError, Global};
 
@@ -28,7 +26,7 @@ const MAX_NESTING: usize = 10_000;
 /// Reads what nests. Where it nests too often, there is no memory for it.
 fn nested(
     alloc: Global,
-    types: &Types<'_>,
+    types: &NameEnvironment<'_>,
     cursor: &mut Cursor<'_>,
     budget: usize,
     d: u32,
@@ -59,7 +57,7 @@ fn nested(
 /// An expression of at least this level, whose first token makes so many nodes necessary besides its own.
 pub fn expression(
     alloc: Global,
-    types: &Types<'_>,
+    types: &NameEnvironment<'_>,
     cursor: &mut Cursor<'_>,
     d: u32,
     least: u8,
@@ -81,7 +79,7 @@ pub fn expression(
 /// How an expression of at least this level goes on behind `x`.
 pub fn rest(
     alloc: Global,
-    types: &Types<'_>,
+    types: &NameEnvironment<'_>,
     cursor: &mut Cursor<'_>,
     d: u32,
     least: u8,
@@ -102,7 +100,7 @@ pub fn rest(
 /// The specifiers of one type. A name may have to follow them, unless they have a struct or an enum.
 pub fn specifiers(
     alloc: Global,
-    types: &Types<'_>,
+    types: &NameEnvironment<'_>,
     cursor: &mut Cursor<'_>,
     d: u32,
     named: bool,
@@ -122,7 +120,7 @@ pub fn specifiers(
 /// A declarator, perhaps of a function, and not of a type.
 pub fn declarator(
     alloc: Global,
-    types: &Types<'_>,
+    types: &NameEnvironment<'_>,
     cursor: &mut Cursor<'_>,
     d: u32,
     may_be_function: bool,
@@ -142,7 +140,7 @@ pub fn declarator(
 /// Behind the bracket of a pointer to a function.
 pub fn pointer(
     alloc: Global,
-    types: &Types<'_>,
+    types: &NameEnvironment<'_>,
     cursor: &mut Cursor<'_>,
     d: u32,
     stars: Stars,
@@ -162,7 +160,7 @@ pub fn pointer(
 /// The sizes of an array.
 pub fn sizes(
     alloc: Global,
-    types: &Types<'_>,
+    types: &NameEnvironment<'_>,
     cursor: &mut Cursor<'_>,
     d: u32,
 ) -> Result<Items<Option<Expr>>, Refusal>
@@ -190,7 +188,7 @@ fn own_name(alloc: Global, name: &Lexeme) -> Result<Names, AllocError>
 /// The declarator of a type, behind its stars and its name, which its sizes and parameters may not declare.
 fn type_declared(
     alloc: Global,
-    types: &Types<'_>,
+    types: &NameEnvironment<'_>,
     cursor: &mut Cursor<'_>,
     d: u32,
     stars: Stars,
@@ -200,7 +198,7 @@ fn type_declared(
     ensures { Gives view_declarator (perform (look [] (declared_by (inside true name types.now) d true stars name)) cursor.old) result cursor.new }
 {
     let own = own_name(alloc, &name)?;
-    let inside = Types::new(types.names(), &own);
+    let inside = NameEnvironment::new(types.types(), &own);
     let grammar = Grammar {
         alloc,
         types: &inside,
@@ -213,7 +211,7 @@ fn type_declared(
 /// The same of a pointer to a function.
 fn type_pointed(
     alloc: Global,
-    types: &Types<'_>,
+    types: &NameEnvironment<'_>,
     cursor: &mut Cursor<'_>,
     d: u32,
     stars: Stars,
@@ -224,7 +222,7 @@ fn type_pointed(
     ensures { Gives view_declarator (perform (type_pointed types.now d stars quals name) cursor.old) result cursor.new }
 {
     let own = own_name(alloc, &name)?;
-    let inside = Types::new(types.names(), &own);
+    let inside = NameEnvironment::new(types.types(), &own);
     let grammar = Grammar {
         alloc,
         types: &inside,
@@ -237,7 +235,7 @@ fn type_pointed(
 /// The declarator of a type that is a pointer to a function, behind the star and its qualifiers.
 fn type_named(
     alloc: Global,
-    types: &Types<'_>,
+    types: &NameEnvironment<'_>,
     cursor: &mut Cursor<'_>,
     d: u32,
     stars: Stars,
@@ -258,7 +256,7 @@ fn type_named(
 /// The declarator of a type that is a pointer to a function, behind the bracket.
 fn type_pointer(
     alloc: Global,
-    types: &Types<'_>,
+    types: &NameEnvironment<'_>,
     cursor: &mut Cursor<'_>,
     d: u32,
     stars: Stars,
@@ -272,10 +270,10 @@ fn type_pointer(
 }
 
 /// The declarator of a type, perhaps of functions.
-#[tactic(auto, using(expression_parser::proofs::Opens::declarator_performs))]
+#[tactic(auto, using(c_grammar::proofs::Opens::declarator_performs))]
 pub fn type_declarator(
     alloc: Global,
-    types: &Types<'_>,
+    types: &NameEnvironment<'_>,
     cursor: &mut Cursor<'_>,
     d: u32,
 ) -> Result<Boxed<Declarator>, Refusal>
@@ -299,7 +297,7 @@ pub fn type_declarator(
 /// The parameters of a function, with the closing bracket.
 pub fn parameters(
     alloc: Global,
-    types: &Types<'_>,
+    types: &NameEnvironment<'_>,
     cursor: &mut Cursor<'_>,
     d: u32,
 ) -> Result<Params, Refusal>

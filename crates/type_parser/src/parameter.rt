@@ -7,20 +7,19 @@ ghost use Rattle.c_grammar.specs.declared.kind.Kind.TheVariants as k;
 ghost use Rattle.c_grammar.specs.Body.{look};
 ghost use Rattle.c_grammar.specs.Reading.{read};
 ghost use Rattle.c_grammar.specs.Rules as rules;
-ghost use Rattle.expression_parser.specs.Gives.{Gives};
-ghost use Rattle.expression_parser.specs.Lists.{mapped};
+ghost use Rattle.c_grammar.specs.Gives.{Gives};
+ghost use Rattle.c_grammar.specs.Lists.{mapped};
 ghost use Rattle.expression_parser.specs.Nests.{Nests};
-ghost use Rattle.expression_parser.specs.Performing.{perform};
+ghost use Rattle.c_grammar.specs.Performing.{perform};
 ghost use Rattle.type_parser.specs.ParameterList as spec;
 
 use crate::declarator::{one_size, sizes};
 use crate::pointer::{quals, stars};
 use crate::specifier::specifiers;
-use c_grammar::{Cursor, Kind, same_kind};
+use c_grammar::steps::{expect, kind, new_kind, refused, rise, spend, word};
+use c_grammar::{Cursor, Kind, NameEnvironment, Refusal, same_kind};
 use c_tree::{Bare, Declarator, ParamForm, Parameter, Params, Quals, SpecWord, Specs, Stars};
-use expression_parser::grammar::{Found, Grammar, Nested, Types};
-use expression_parser::refusal::Refusal;
-use expression_parser::steps::{expect, kind, new_kind, refused, rise, spend, word};
+use expression_parser::grammar::{Found, Grammar, Nested};
 use sqlite_items::Items;
 use std::alloc::Global;
 
@@ -112,9 +111,16 @@ fn no_parameters(alloc: Global) -> Params
 }
 
 /// The parameters of a function, with the closing bracket.
-#[tactic(auto, using(expression_parser::proofs::Opens::parameters_performs))]
+#[tactic(auto, using(c_grammar::proofs::Opens::parameters_performs))]
 pub fn all_parameters<
-    F: Fn(Global, &Types<'_>, &mut Cursor<'_>, usize, u32, Nested) -> Result<Found, Refusal>,
+    F: Fn(
+        Global,
+        &NameEnvironment<'_>,
+        &mut Cursor<'_>,
+        usize,
+        u32,
+        Nested,
+    ) -> Result<Found, Refusal>,
 >(grammar: &Grammar<'_, F>, cursor: &mut Cursor<'_>, d: u32) -> Result<Params, Refusal>
     requires nests { Nests grammar.now.budget (F.pre grammar.now.read) (F.post grammar.now.read) }
     requires small { d ≤ 1001 }
@@ -135,7 +141,14 @@ pub fn all_parameters<
 /// At least one parameter, with the closing bracket.
 #[tactic(auto, using(crate::proofs::ParameterLists::parameters_begin))]
 fn some_parameters<
-    F: Fn(Global, &Types<'_>, &mut Cursor<'_>, usize, u32, Nested) -> Result<Found, Refusal>,
+    F: Fn(
+        Global,
+        &NameEnvironment<'_>,
+        &mut Cursor<'_>,
+        usize,
+        u32,
+        Nested,
+    ) -> Result<Found, Refusal>,
 >(grammar: &Grammar<'_, F>, cursor: &mut Cursor<'_>, d: u32) -> Result<Items<Parameter>, Refusal>
     requires nests { Nests grammar.now.budget (F.pre grammar.now.read) (F.post grammar.now.read) }
     requires small { d ≤ 1001 }
@@ -148,7 +161,14 @@ fn some_parameters<
 
 /// Parameters, behind the first, with the closing bracket.
 fn more_parameters<
-    F: Fn(Global, &Types<'_>, &mut Cursor<'_>, usize, u32, Nested) -> Result<Found, Refusal>,
+    F: Fn(
+        Global,
+        &NameEnvironment<'_>,
+        &mut Cursor<'_>,
+        usize,
+        u32,
+        Nested,
+    ) -> Result<Found, Refusal>,
 >(
     grammar: &Grammar<'_, F>,
     cursor: &mut Cursor<'_>,
@@ -170,7 +190,14 @@ fn more_parameters<
 
 /// One more parameter, behind a comma.
 fn another_parameter<
-    F: Fn(Global, &Types<'_>, &mut Cursor<'_>, usize, u32, Nested) -> Result<Found, Refusal>,
+    F: Fn(
+        Global,
+        &NameEnvironment<'_>,
+        &mut Cursor<'_>,
+        usize,
+        u32,
+        Nested,
+    ) -> Result<Found, Refusal>,
 >(grammar: &Grammar<'_, F>, cursor: &mut Cursor<'_>, d: u32) -> Result<Parameter, Refusal>
     requires nests { Nests grammar.now.budget (F.pre grammar.now.read) (F.post grammar.now.read) }
     requires small { d ≤ 1001 }
@@ -182,7 +209,14 @@ fn another_parameter<
 
 /// One parameter, in its own scope.
 fn one_parameter<
-    F: Fn(Global, &Types<'_>, &mut Cursor<'_>, usize, u32, Nested) -> Result<Found, Refusal>,
+    F: Fn(
+        Global,
+        &NameEnvironment<'_>,
+        &mut Cursor<'_>,
+        usize,
+        u32,
+        Nested,
+    ) -> Result<Found, Refusal>,
 >(grammar: &Grammar<'_, F>, cursor: &mut Cursor<'_>, d: u32) -> Result<Parameter, Refusal>
     requires nests { Nests grammar.now.budget (F.pre grammar.now.read) (F.post grammar.now.read) }
     requires small { d ≤ 1001 }
@@ -195,9 +229,16 @@ fn one_parameter<
 }
 
 /// A parameter, with a name or without.
-#[tactic(auto, using(expression_parser::proofs::Opens::parameter_performs))]
+#[tactic(auto, using(c_grammar::proofs::Opens::parameter_performs))]
 fn parameter<
-    F: Fn(Global, &Types<'_>, &mut Cursor<'_>, usize, u32, Nested) -> Result<Found, Refusal>,
+    F: Fn(
+        Global,
+        &NameEnvironment<'_>,
+        &mut Cursor<'_>,
+        usize,
+        u32,
+        Nested,
+    ) -> Result<Found, Refusal>,
 >(grammar: &Grammar<'_, F>, cursor: &mut Cursor<'_>, d: u32) -> Result<Parameter, Refusal>
     requires nests { Nests grammar.now.budget (F.pre grammar.now.read) (F.post grammar.now.read) }
     requires small { d ≤ 1001 }
@@ -210,7 +251,16 @@ fn parameter<
 
 /// A parameter behind its stars.
 #[tactic(auto, using(c_tree::proofs::ViewLemmas::view_Parameter, c_tree::proofs::ViewLemmas::view_ParamForm_Bare, c_tree::proofs::ViewLemmas::view_Bare_Plain))]
-fn formed<F: Fn(Global, &Types<'_>, &mut Cursor<'_>, usize, u32, Nested) -> Result<Found, Refusal>>(
+fn formed<
+    F: Fn(
+        Global,
+        &NameEnvironment<'_>,
+        &mut Cursor<'_>,
+        usize,
+        u32,
+        Nested,
+    ) -> Result<Found, Refusal>,
+>(
     grammar: &Grammar<'_, F>,
     cursor: &mut Cursor<'_>,
     d: u32,
@@ -236,7 +286,16 @@ fn formed<F: Fn(Global, &Types<'_>, &mut Cursor<'_>, usize, u32, Nested) -> Resu
 
 /// A parameter at its name.
 #[tactic(auto, using(c_tree::proofs::ViewLemmas::view_Parameter, c_tree::proofs::ViewLemmas::view_ParamForm_Named, c_tree::proofs::ViewLemmas::view_Declarator_Array, c_tree::proofs::ViewLemmas::view_Declarator_Plain))]
-fn named<F: Fn(Global, &Types<'_>, &mut Cursor<'_>, usize, u32, Nested) -> Result<Found, Refusal>>(
+fn named<
+    F: Fn(
+        Global,
+        &NameEnvironment<'_>,
+        &mut Cursor<'_>,
+        usize,
+        u32,
+        Nested,
+    ) -> Result<Found, Refusal>,
+>(
     grammar: &Grammar<'_, F>,
     cursor: &mut Cursor<'_>,
     d: u32,
@@ -261,7 +320,16 @@ fn named<F: Fn(Global, &Types<'_>, &mut Cursor<'_>, usize, u32, Nested) -> Resul
 }
 
 /// A parameter behind the bracket of a pointer to a function.
-fn inner<F: Fn(Global, &Types<'_>, &mut Cursor<'_>, usize, u32, Nested) -> Result<Found, Refusal>>(
+fn inner<
+    F: Fn(
+        Global,
+        &NameEnvironment<'_>,
+        &mut Cursor<'_>,
+        usize,
+        u32,
+        Nested,
+    ) -> Result<Found, Refusal>,
+>(
     grammar: &Grammar<'_, F>,
     cursor: &mut Cursor<'_>,
     d: u32,
@@ -284,7 +352,14 @@ fn inner<F: Fn(Global, &Types<'_>, &mut Cursor<'_>, usize, u32, Nested) -> Resul
 /// A pointer to a function, at its name.
 #[tactic(auto, using(c_tree::proofs::ViewLemmas::view_Parameter, c_tree::proofs::ViewLemmas::view_ParamForm_Named, c_tree::proofs::ViewLemmas::view_Declarator_Pointer))]
 fn named_pointer<
-    F: Fn(Global, &Types<'_>, &mut Cursor<'_>, usize, u32, Nested) -> Result<Found, Refusal>,
+    F: Fn(
+        Global,
+        &NameEnvironment<'_>,
+        &mut Cursor<'_>,
+        usize,
+        u32,
+        Nested,
+    ) -> Result<Found, Refusal>,
 >(
     grammar: &Grammar<'_, F>,
     cursor: &mut Cursor<'_>,
@@ -313,7 +388,14 @@ fn named_pointer<
 /// A pointer to a function without a name, at the bracket behind its star.
 #[tactic(auto, using(c_tree::proofs::ViewLemmas::view_Parameter, c_tree::proofs::ViewLemmas::view_ParamForm_Bare, c_tree::proofs::ViewLemmas::view_Bare_Pointer))]
 fn bare_pointer<
-    F: Fn(Global, &Types<'_>, &mut Cursor<'_>, usize, u32, Nested) -> Result<Found, Refusal>,
+    F: Fn(
+        Global,
+        &NameEnvironment<'_>,
+        &mut Cursor<'_>,
+        usize,
+        u32,
+        Nested,
+    ) -> Result<Found, Refusal>,
 >(
     grammar: &Grammar<'_, F>,
     cursor: &mut Cursor<'_>,

@@ -3,14 +3,13 @@
 ghost use Rattle.std.specs.Prelude.{◌≡◌};
 ghost use Rattle.c_grammar.specs.Reading.{read};
 ghost use Rattle.c_grammar.specs.Rules.{all_stars, all_quals};
-ghost use Rattle.expression_parser.specs.Gives.{Gives};
+ghost use Rattle.c_grammar.specs.Gives.{Gives};
 ghost use Rattle.expression_parser.specs.Pointers as spec;
 ghost use Rattle.c_grammar.specs.Performing.{perform};
 ghost use Rattle.type_parser.specs.DeclaratorParts.{star};
 
-use c_grammar::{Cursor, Kind, same_kind};
+use c_grammar::{Cursor, Kind, Refusal, same_kind};
 use c_tree::{Qual, Quals, Stars};
-use expression_parser::refusal::Refusal;
 use sqlite_items::Items;
 use std::alloc::Global;
 

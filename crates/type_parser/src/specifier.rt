@@ -4,26 +4,32 @@ ghost use Rattle.std.specs.Prelude.{◌≡◌, ◌≤◌, [], map};
 ghost use Rattle.c_tree.specs.View.{view_specifier, view_type, specifiers_of};
 ghost use Rattle.c_grammar.specs.Reading.{read};
 ghost use Rattle.c_grammar.specs.Rules.{a_type, all_specifiers};
-ghost use Rattle.expression_parser.specs.Gives.{Gives};
+ghost use Rattle.c_grammar.specs.Gives.{Gives};
 ghost use Rattle.expression_parser.specs.Nests.{Nests};
-ghost use Rattle.expression_parser.specs.Performing.{perform};
+ghost use Rattle.c_grammar.specs.Performing.{perform};
 ghost use Rattle.type_parser.specs.SpecifierWords.{a_specifier};
 
 use crate::declarator::bare;
 use crate::tagged::{enumeration, structure};
 use crate::words::{Start, Words, is_type_word, keyword, stays};
-use c_grammar::Cursor;
+use c_grammar::steps::{kind, refused, spend, word};
+use c_grammar::{Cursor, NameEnvironment, Refusal};
 use c_tree::{SpecWord, Specs, TypeName};
-use expression_parser::grammar::{Found, Grammar, Nested, Types};
-use expression_parser::refusal::Refusal;
-use expression_parser::steps::{kind, refused, spend, word};
+use expression_parser::grammar::{Found, Grammar, Nested};
 use sqlite_items::{Boxed, Items};
 use std::alloc::Global;
 
 /// The type that a cast or sizeof names.
-#[tactic(auto, using(expression_parser::proofs::Opens::type_performs, c_tree::proofs::ViewLemmas::view_TypeName))]
+#[tactic(auto, using(c_grammar::proofs::Opens::type_performs, c_tree::proofs::ViewLemmas::view_TypeName))]
 pub fn type_name<
-    F: Fn(Global, &Types<'_>, &mut Cursor<'_>, usize, u32, Nested) -> Result<Found, Refusal>,
+    F: Fn(
+        Global,
+        &NameEnvironment<'_>,
+        &mut Cursor<'_>,
+        usize,
+        u32,
+        Nested,
+    ) -> Result<Found, Refusal>,
 >(grammar: &Grammar<'_, F>, cursor: &mut Cursor<'_>, d: u32) -> Result<Boxed<TypeName>, Refusal>
     requires nests { Nests grammar.now.budget (F.pre grammar.now.read) (F.post grammar.now.read) }
     requires small { d ≤ 1001 }
@@ -36,7 +42,14 @@ pub fn type_name<
 
 /// The specifiers of one type. A name may have to follow them, unless they have a struct or an enum.
 pub fn specifiers<
-    F: Fn(Global, &Types<'_>, &mut Cursor<'_>, usize, u32, Nested) -> Result<Found, Refusal>,
+    F: Fn(
+        Global,
+        &NameEnvironment<'_>,
+        &mut Cursor<'_>,
+        usize,
+        u32,
+        Nested,
+    ) -> Result<Found, Refusal>,
 >(grammar: &Grammar<'_, F>, cursor: &mut Cursor<'_>, d: u32, named: bool) -> Result<Specs, Refusal>
     requires nests { Nests grammar.now.budget (F.pre grammar.now.read) (F.post grammar.now.read) }
     requires small { d ≤ 1001 }
@@ -59,7 +72,14 @@ pub fn specifiers<
 /// One specifier. The first word of a type that is neither a struct nor an enum makes the name necessary that has to follow.
 #[tactic(auto, using(c_tree::proofs::ViewLemmas::view_SpecWord_TypeName))]
 fn specifier<
-    F: Fn(Global, &Types<'_>, &mut Cursor<'_>, usize, u32, Nested) -> Result<Found, Refusal>,
+    F: Fn(
+        Global,
+        &NameEnvironment<'_>,
+        &mut Cursor<'_>,
+        usize,
+        u32,
+        Nested,
+    ) -> Result<Found, Refusal>,
 >(
     grammar: &Grammar<'_, F>,
     cursor: &mut Cursor<'_>,

@@ -6,28 +6,34 @@ ghost use Rattle.c_tree.specs.View.{view_specifier, view_declarator, view_enumer
 ghost use Rattle.c_grammar.specs.Body.{look};
 ghost use Rattle.c_grammar.specs.Reading.{read};
 ghost use Rattle.c_grammar.specs.Rules.{barred, a_struct, all_members, all_declarators, more_declarators, an_enum, all_enumerators, struct_body_by, enum_body_by};
-ghost use Rattle.expression_parser.specs.Gives.{Gives};
-ghost use Rattle.expression_parser.specs.Lists.{mapped};
+ghost use Rattle.c_grammar.specs.Gives.{Gives};
+ghost use Rattle.c_grammar.specs.Lists.{mapped};
 ghost use Rattle.expression_parser.specs.Nests.{Nests};
-ghost use Rattle.expression_parser.specs.Performing.{perform};
+ghost use Rattle.c_grammar.specs.Performing.{perform};
 ghost use Rattle.type_parser.specs.Tagged.{struct_in, enum_in, one_member, behind_member_by, another_declarator, one_enumerator, valued_by, behind_enumerator_by, next_by};
 
 use crate::declarator::declarator;
 use crate::specifier::specifiers;
 use base_core::Lexeme;
-use c_grammar::{Cursor, Kind, same_kind};
+use c_grammar::steps::{expect, kind, new_kind, new_name, refused, spend, word};
+use c_grammar::{Cursor, Kind, NameEnvironment, Refusal, same_kind};
 use c_tree::{Declarator, Enumerator, Member, SpecWord, Specs};
-use expression_parser::grammar::{Found, Grammar, Nested, Types};
+use expression_parser::grammar::{Found, Grammar, Nested};
 use expression_parser::infix::begins_type;
-use expression_parser::refusal::Refusal;
-use expression_parser::steps::{expect, kind, new_kind, new_name, refused, spend, word};
 use sqlite_items::{Boxed, Items};
 use std::alloc::Global;
 
 /// The members of a struct in their braces, behind its tag if it has one.
 #[tactic(auto, using(c_tree::proofs::ViewLemmas::view_SpecWord_Struct))]
 fn struct_in<
-    F: Fn(Global, &Types<'_>, &mut Cursor<'_>, usize, u32, Nested) -> Result<Found, Refusal>,
+    F: Fn(
+        Global,
+        &NameEnvironment<'_>,
+        &mut Cursor<'_>,
+        usize,
+        u32,
+        Nested,
+    ) -> Result<Found, Refusal>,
 >(
     grammar: &Grammar<'_, F>,
     cursor: &mut Cursor<'_>,
@@ -47,7 +53,14 @@ fn struct_in<
 /// A struct, behind its tag: its members, or the tag alone.
 #[tactic(auto, using(c_tree::proofs::ViewLemmas::view_SpecWord_StructTag))]
 fn struct_body<
-    F: Fn(Global, &Types<'_>, &mut Cursor<'_>, usize, u32, Nested) -> Result<Found, Refusal>,
+    F: Fn(
+        Global,
+        &NameEnvironment<'_>,
+        &mut Cursor<'_>,
+        usize,
+        u32,
+        Nested,
+    ) -> Result<Found, Refusal>,
 >(
     grammar: &Grammar<'_, F>,
     cursor: &mut Cursor<'_>,
@@ -65,9 +78,16 @@ fn struct_body<
 }
 
 /// A struct, behind the word struct.
-#[tactic(auto, using(expression_parser::proofs::Opens::struct_performs))]
+#[tactic(auto, using(c_grammar::proofs::Opens::struct_performs))]
 pub fn structure<
-    F: Fn(Global, &Types<'_>, &mut Cursor<'_>, usize, u32, Nested) -> Result<Found, Refusal>,
+    F: Fn(
+        Global,
+        &NameEnvironment<'_>,
+        &mut Cursor<'_>,
+        usize,
+        u32,
+        Nested,
+    ) -> Result<Found, Refusal>,
 >(grammar: &Grammar<'_, F>, cursor: &mut Cursor<'_>, d: u32) -> Result<SpecWord, Refusal>
     requires nests { Nests grammar.now.budget (F.pre grammar.now.read) (F.post grammar.now.read) }
     requires small { d ≤ 1001 }
@@ -86,14 +106,14 @@ pub fn structure<
 /// Behind the semicolon of a member: the closing brace, or another member begins.
 #[tactic(auto, using(c_tree::proofs::ViewLemmas::view_Member))]
 fn behind_member(
-    types: &Types<'_>,
+    types: &NameEnvironment<'_>,
     cursor: &mut Cursor<'_>,
     d: u32,
     specs: Specs,
     names: Items<Declarator>,
 ) -> Result<(Member, bool), Refusal>
     requires small { d ≤ 1001 }
-    ensures { Gives (λ p. (view_member p.0, p.1)) (perform (look types.now.names (behind_member_by types.now d (specifiers_of (map view_specifier specs), declarators_of (map view_declarator names)))) cursor.old) result cursor.new }
+    ensures { Gives (λ p. (view_member p.0, p.1)) (perform (look types.now.types (behind_member_by types.now d (specifiers_of (map view_specifier specs), declarators_of (map view_declarator names)))) cursor.old) result cursor.new }
 {
     match kind(types, cursor) {
         Kind::CloseBrace => {
@@ -111,11 +131,16 @@ fn behind_member(
 }
 
 /// One member, and whether it is the last.
-fn member<F: Fn(Global, &Types<'_>, &mut Cursor<'_>, usize, u32, Nested) -> Result<Found, Refusal>>(
-    grammar: &Grammar<'_, F>,
-    cursor: &mut Cursor<'_>,
-    d: u32,
-) -> Result<(Member, bool), Refusal>
+fn member<
+    F: Fn(
+        Global,
+        &NameEnvironment<'_>,
+        &mut Cursor<'_>,
+        usize,
+        u32,
+        Nested,
+    ) -> Result<Found, Refusal>,
+>(grammar: &Grammar<'_, F>, cursor: &mut Cursor<'_>, d: u32) -> Result<(Member, bool), Refusal>
     requires nests { Nests grammar.now.budget (F.pre grammar.now.read) (F.post grammar.now.read) }
     requires small { d ≤ 1000 }
     ensures { Gives (λ p. (view_member p.0, p.1)) (perform (one_member grammar.now.types.now d) cursor.old) result cursor.new }
@@ -129,7 +154,14 @@ fn member<F: Fn(Global, &Types<'_>, &mut Cursor<'_>, usize, u32, Nested) -> Resu
 /// The members of a struct, with the closing brace. The brace before them was within the limits, so that `d` is below 1000
 /// and the first refusal never comes.
 pub fn all_members<
-    F: Fn(Global, &Types<'_>, &mut Cursor<'_>, usize, u32, Nested) -> Result<Found, Refusal>,
+    F: Fn(
+        Global,
+        &NameEnvironment<'_>,
+        &mut Cursor<'_>,
+        usize,
+        u32,
+        Nested,
+    ) -> Result<Found, Refusal>,
 >(grammar: &Grammar<'_, F>, cursor: &mut Cursor<'_>, d: u32) -> Result<Items<Member>, Refusal>
     requires nests { Nests grammar.now.budget (F.pre grammar.now.read) (F.post grammar.now.read) }
     requires small { d ≤ 1001 }
@@ -150,7 +182,14 @@ pub fn all_members<
 
 /// One more declarator of a member, behind a comma.
 fn another_declarator<
-    F: Fn(Global, &Types<'_>, &mut Cursor<'_>, usize, u32, Nested) -> Result<Found, Refusal>,
+    F: Fn(
+        Global,
+        &NameEnvironment<'_>,
+        &mut Cursor<'_>,
+        usize,
+        u32,
+        Nested,
+    ) -> Result<Found, Refusal>,
 >(grammar: &Grammar<'_, F>, cursor: &mut Cursor<'_>, d: u32) -> Result<Boxed<Declarator>, Refusal>
     requires nests { Nests grammar.now.budget (F.pre grammar.now.read) (F.post grammar.now.read) }
     requires small { d ≤ 1001 }
@@ -163,7 +202,14 @@ fn another_declarator<
 
 /// The declarators of a member, behind the first.
 fn more_declarators<
-    F: Fn(Global, &Types<'_>, &mut Cursor<'_>, usize, u32, Nested) -> Result<Found, Refusal>,
+    F: Fn(
+        Global,
+        &NameEnvironment<'_>,
+        &mut Cursor<'_>,
+        usize,
+        u32,
+        Nested,
+    ) -> Result<Found, Refusal>,
 >(
     grammar: &Grammar<'_, F>,
     cursor: &mut Cursor<'_>,
@@ -184,9 +230,16 @@ fn more_declarators<
 }
 
 /// The declarators of a member.
-#[tactic(auto, using(expression_parser::proofs::Opens::declarators_performs))]
+#[tactic(auto, using(c_grammar::proofs::Opens::declarators_performs))]
 fn declarators<
-    F: Fn(Global, &Types<'_>, &mut Cursor<'_>, usize, u32, Nested) -> Result<Found, Refusal>,
+    F: Fn(
+        Global,
+        &NameEnvironment<'_>,
+        &mut Cursor<'_>,
+        usize,
+        u32,
+        Nested,
+    ) -> Result<Found, Refusal>,
 >(grammar: &Grammar<'_, F>, cursor: &mut Cursor<'_>, d: u32) -> Result<Items<Declarator>, Refusal>
     requires nests { Nests grammar.now.budget (F.pre grammar.now.read) (F.post grammar.now.read) }
     requires small { d ≤ 1000 }
@@ -200,7 +253,14 @@ fn declarators<
 /// The enumerators in their braces, behind the tag of the enum if it has one.
 #[tactic(auto, using(c_tree::proofs::ViewLemmas::view_SpecWord_Enum))]
 fn enum_in<
-    F: Fn(Global, &Types<'_>, &mut Cursor<'_>, usize, u32, Nested) -> Result<Found, Refusal>,
+    F: Fn(
+        Global,
+        &NameEnvironment<'_>,
+        &mut Cursor<'_>,
+        usize,
+        u32,
+        Nested,
+    ) -> Result<Found, Refusal>,
 >(
     grammar: &Grammar<'_, F>,
     cursor: &mut Cursor<'_>,
@@ -220,7 +280,14 @@ fn enum_in<
 /// An enum, behind its tag: its enumerators, or the tag alone.
 #[tactic(auto, using(c_tree::proofs::ViewLemmas::view_SpecWord_EnumTag))]
 fn enum_body<
-    F: Fn(Global, &Types<'_>, &mut Cursor<'_>, usize, u32, Nested) -> Result<Found, Refusal>,
+    F: Fn(
+        Global,
+        &NameEnvironment<'_>,
+        &mut Cursor<'_>,
+        usize,
+        u32,
+        Nested,
+    ) -> Result<Found, Refusal>,
 >(
     grammar: &Grammar<'_, F>,
     cursor: &mut Cursor<'_>,
@@ -238,9 +305,16 @@ fn enum_body<
 }
 
 /// An enum, behind the word enum.
-#[tactic(auto, using(expression_parser::proofs::Opens::enum_performs))]
+#[tactic(auto, using(c_grammar::proofs::Opens::enum_performs))]
 pub fn enumeration<
-    F: Fn(Global, &Types<'_>, &mut Cursor<'_>, usize, u32, Nested) -> Result<Found, Refusal>,
+    F: Fn(
+        Global,
+        &NameEnvironment<'_>,
+        &mut Cursor<'_>,
+        usize,
+        u32,
+        Nested,
+    ) -> Result<Found, Refusal>,
 >(grammar: &Grammar<'_, F>, cursor: &mut Cursor<'_>, d: u32) -> Result<SpecWord, Refusal>
     requires nests { Nests grammar.now.budget (F.pre grammar.now.read) (F.post grammar.now.read) }
     requires small { d ≤ 1001 }
@@ -258,7 +332,7 @@ pub fn enumeration<
 
 /// Behind the comma of an enumerator: the closing brace, or another enumerator begins.
 fn behind_comma(
-    types: &Types<'_>,
+    types: &NameEnvironment<'_>,
     cursor: &mut Cursor<'_>,
     d: u32,
     found: Boxed<Enumerator>,
@@ -281,7 +355,7 @@ fn behind_comma(
 
 /// Behind an enumerator: the closing brace, or a comma.
 fn behind_enumerator(
-    types: &Types<'_>,
+    types: &NameEnvironment<'_>,
     cursor: &mut Cursor<'_>,
     d: u32,
     found: Boxed<Enumerator>,
@@ -304,7 +378,16 @@ fn behind_enumerator(
 
 /// An enumerator, behind its name: its value if it has one, and what stands behind it.
 #[tactic(auto, using(c_tree::proofs::ViewLemmas::view_Enumerator))]
-fn value<F: Fn(Global, &Types<'_>, &mut Cursor<'_>, usize, u32, Nested) -> Result<Found, Refusal>>(
+fn value<
+    F: Fn(
+        Global,
+        &NameEnvironment<'_>,
+        &mut Cursor<'_>,
+        usize,
+        u32,
+        Nested,
+    ) -> Result<Found, Refusal>,
+>(
     grammar: &Grammar<'_, F>,
     cursor: &mut Cursor<'_>,
     d: u32,
@@ -333,7 +416,14 @@ fn value<F: Fn(Global, &Types<'_>, &mut Cursor<'_>, usize, u32, Nested) -> Resul
 
 /// One enumerator, and where it is the last whether a comma stands behind it.
 fn enumerator<
-    F: Fn(Global, &Types<'_>, &mut Cursor<'_>, usize, u32, Nested) -> Result<Found, Refusal>,
+    F: Fn(
+        Global,
+        &NameEnvironment<'_>,
+        &mut Cursor<'_>,
+        usize,
+        u32,
+        Nested,
+    ) -> Result<Found, Refusal>,
 >(
     grammar: &Grammar<'_, F>,
     cursor: &mut Cursor<'_>,
@@ -349,7 +439,14 @@ fn enumerator<
 
 /// The enumerators, with the closing brace, and whether a comma stands before it.
 fn enumerators<
-    F: Fn(Global, &Types<'_>, &mut Cursor<'_>, usize, u32, Nested) -> Result<Found, Refusal>,
+    F: Fn(
+        Global,
+        &NameEnvironment<'_>,
+        &mut Cursor<'_>,
+        usize,
+        u32,
+        Nested,
+    ) -> Result<Found, Refusal>,
 >(
     grammar: &Grammar<'_, F>,
     cursor: &mut Cursor<'_>,

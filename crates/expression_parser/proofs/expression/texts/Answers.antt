@@ -2,7 +2,7 @@ use Rattle.std.proofs.Common.{◌≡◌, [], true, false}
 use Rattle.c_grammar.specs.declared.kind.Kind.TheVariants as k
 use Rattle.c_grammar.specs.Kind.{kind, same_kind}
 use Rattle.expression_parser.proofs.Listing.{texts_turn, texts_end, texts_shorter}
-use Rattle.expression_parser.proofs.Loops.{loop_turn, loop_ends, before_same}
+use Rattle.c_grammar.proofs.Loops.{loop_turn, loop_ends, before_same}
 use Rattle.expression_parser.proofs.expression.texts.Goals as goal
 
 pub loop-alloc-smaller : goal.loop-alloc-smaller

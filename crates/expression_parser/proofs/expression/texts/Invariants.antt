@@ -1,8 +1,8 @@
 use Rattle.std.proofs.Common.{◌∷◌, length}
 use Rattle.c_grammar.specs.Reading.{read}
 use Rattle.c_grammar.specs.Rules.{more_texts}
-use Rattle.expression_parser.specs.Lists.{mapped}
-use Rattle.expression_parser.proofs.Loops.{Loop}
+use Rattle.c_grammar.specs.Lists.{mapped}
+use Rattle.c_grammar.proofs.Loops.{Loop}
 use Rattle.expression_parser.proofs.expression.texts.Given as goal
 
 abbrev pub invariant-loop-alloc : goal.invariant-loop-alloc

@@ -1,7 +1,7 @@
 use Rattle.std.proofs.Common.{◌≡◌, true, sym, subst, rules}
 use Rattle.c_tree.specs.StatementView.{view_item}
 use Rattle.c_grammar.specs.Rules.{begins_type}
-use Rattle.expression_parser.specs.Gives.{Gives}
+use Rattle.c_grammar.specs.Gives.{Gives}
 use Rattle.item_parser.proofs.ItemCases.{item_on}
 use Rattle.item_parser.proofs.all_items.item.Goals as goal
 

@@ -3,7 +3,7 @@ use Rattle.c_tree.specs.Shape.{first_scope}
 use Rattle.c_tree.specs.StatementView.{view_item}
 use Rattle.c_grammar.specs.Reading.{read}
 use Rattle.c_grammar.specs.Rules.{all_items}
-use Rattle.expression_parser.proofs.Loops.{Loop}
+use Rattle.c_grammar.proofs.Loops.{Loop}
 use Rattle.item_parser.proofs.all_items.items.Given as goal
 
 abbrev pub invariant-loop-alloc : goal.invariant-loop-alloc

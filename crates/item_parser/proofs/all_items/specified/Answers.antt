@@ -1,7 +1,7 @@
 use Rattle.std.proofs.Common.{map, sym, subst}
 use Rattle.c_tree.specs.StatementView.{view_item}
 use Rattle.c_tree.specs.View.{view_specifier, specifiers_of}
-use Rattle.expression_parser.specs.Gives.{Gives}
+use Rattle.c_grammar.specs.Gives.{Gives}
 use Rattle.item_parser.proofs.ItemCases.{specified_on}
 use Rattle.item_parser.proofs.all_items.specified.Goals as goal
 

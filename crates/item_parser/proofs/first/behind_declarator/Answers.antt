@@ -2,7 +2,7 @@ use Rattle.std.proofs.Common.{map, sym, subst}
 use Rattle.c_tree.specs.Shape.{behind_specifiers}
 use Rattle.c_tree.specs.StatementView.{view_item}
 use Rattle.c_tree.specs.View.{view_specifier, view_declarator, specifiers_of}
-use Rattle.expression_parser.specs.Gives.{Gives}
+use Rattle.c_grammar.specs.Gives.{Gives}
 use Rattle.item_parser.proofs.ItemCases.{declared_by}
 use Rattle.item_parser.proofs.first.behind_declarator.Goals as goal
 

@@ -1,7 +1,7 @@
 use Rattle.std.proofs.Common.{sym, ap, subst, ◌∙◌}
 use Rattle.c_tree.specs.View.{view_declarator, view_parameters}
 use Rattle.c_tree.proofs.ViewLemmas.{view_Declarator_Plain, view_Declarator_Function}
-use Rattle.expression_parser.specs.Gives.{Gives}
+use Rattle.c_grammar.specs.Gives.{Gives}
 use Rattle.item_parser.proofs.FirstCases.{plain_on, function_on}
 use Rattle.item_parser.proofs.first.first_declared.Goals as goal
 

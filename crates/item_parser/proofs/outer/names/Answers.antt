@@ -2,8 +2,8 @@ use Rattle.std.proofs.Common.{◌≡◌, [], ◌∷◌, ◌++◌, map, true, fal
 use Rattle.c_tree.specs.StatementView.{view_named}
 use Rattle.c_grammar.specs.declared.kind.Kind.TheVariants as k
 use Rattle.c_grammar.specs.Kind.{kind, same_kind}
-use Rattle.expression_parser.proofs.Joining.{erred}
-use Rattle.expression_parser.proofs.Loops.{loop_turn, loop_ends, loop_fails, pushed, before_same}
+use Rattle.c_grammar.proofs.Joining.{erred}
+use Rattle.c_grammar.proofs.Loops.{loop_turn, loop_ends, loop_fails, pushed, before_same}
 use Rattle.item_parser.proofs.OuterNames.{names_turn, names_fail, names_shorter, names_end, names_stop, names_begin, behind_first, behind_pushed}
 use Rattle.item_parser.proofs.outer.names.Goals as goal
 

@@ -3,8 +3,8 @@ use Rattle.c_tree.specs.Shape.{behind_named, behind_names}
 use Rattle.c_tree.specs.StatementView.{view_named}
 use Rattle.c_grammar.specs.Reading.{read}
 use Rattle.c_grammar.specs.Rules.{more_outer}
-use Rattle.expression_parser.specs.Lists.{mapped}
-use Rattle.expression_parser.proofs.Loops.{Loop}
+use Rattle.c_grammar.specs.Lists.{mapped}
+use Rattle.c_grammar.proofs.Loops.{Loop}
 use Rattle.item_parser.proofs.outer.names.Given as goal
 
 abbrev pub invariant-loop-alloc : goal.invariant-loop-alloc

@@ -1,7 +1,7 @@
 use Rattle.std.proofs.Common.{sym, subst}
 use Rattle.c_tree.specs.View.{view_declarator}
 use Rattle.c_tree.specs.StatementView.{view_named}
-use Rattle.expression_parser.specs.Gives.{Gives}
+use Rattle.c_grammar.specs.Gives.{Gives}
 use Rattle.item_parser.proofs.ItemCases.{outer_on}
 use Rattle.item_parser.proofs.outer.outer.Goals as goal
 

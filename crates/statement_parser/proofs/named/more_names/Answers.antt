@@ -2,8 +2,8 @@ use Rattle.std.proofs.Common.{◌≡◌, [], ◌∷◌, ◌++◌, subst, map, tr
 use Rattle.c_tree.specs.StatementView.{view_named}
 use Rattle.c_grammar.specs.declared.kind.Kind.TheVariants as k
 use Rattle.c_grammar.specs.Kind.{kind, same_kind}
-use Rattle.expression_parser.proofs.Joining.{erred}
-use Rattle.expression_parser.proofs.Loops.{loop_turn, loop_ends, loop_fails, pushed, before_same}
+use Rattle.c_grammar.proofs.Joining.{erred}
+use Rattle.c_grammar.proofs.Loops.{loop_turn, loop_ends, loop_fails, pushed, before_same}
 use Rattle.statement_parser.proofs.NameLists.{named_turn, named_fail, named_shorter, named_end, named_stop}
 use Rattle.statement_parser.proofs.named.more_names.Goals as goal
 

@@ -2,8 +2,8 @@ use Rattle.std.proofs.Common.{◌∷◌, map, length}
 use Rattle.c_tree.specs.StatementView.{view_named}
 use Rattle.c_grammar.specs.Reading.{read}
 use Rattle.c_grammar.specs.Rules.{more_named}
-use Rattle.expression_parser.specs.Lists.{mapped}
-use Rattle.expression_parser.proofs.Loops.{Loop}
+use Rattle.c_grammar.specs.Lists.{mapped}
+use Rattle.c_grammar.proofs.Loops.{Loop}
 use Rattle.statement_parser.proofs.named.more_names.Given as goal
 
 abbrev pub invariant-loop-alloc : goal.invariant-loop-alloc

@@ -1,6 +1,6 @@
 use Rattle.std.proofs.Common.{sym, subst}
 use Rattle.c_tree.specs.StatementView.{view_init, view_part}
-use Rattle.expression_parser.specs.Gives.{Gives}
+use Rattle.c_grammar.specs.Gives.{Gives}
 use Rattle.statement_parser.proofs.Parts.{part_unnamed}
 use Rattle.statement_parser.proofs.part.part.Goals as goal
 

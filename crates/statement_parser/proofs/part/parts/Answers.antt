@@ -2,9 +2,9 @@ use Rattle.std.proofs.Common.{◌≡◌, map, Some, None, refl, subst, arith}
 use Rattle.c_tree.specs.Tree.{no_initializers}
 use Rattle.c_tree.specs.StatementView.{view_part, initializers_of}
 use Rattle.c_grammar.specs.Body.{got}
-use Rattle.expression_parser.specs.Performing.{perform}
-use Rattle.expression_parser.proofs.Joining.{erred}
-use Rattle.expression_parser.proofs.Loops.{loop_turn, loop_ends, loop_fails, pushed}
+use Rattle.c_grammar.specs.Performing.{perform}
+use Rattle.c_grammar.proofs.Joining.{erred}
+use Rattle.c_grammar.proofs.Loops.{loop_turn, loop_ends, loop_fails, pushed}
 use Rattle.statement_parser.specs.PartList.{one_part}
 use Rattle.statement_parser.proofs.Parts.{parts_turn, parts_last, parts_fail, parts_shorter, parts_none}
 use Rattle.statement_parser.proofs.part.parts.Goals as goal

@@ -2,7 +2,7 @@ use Rattle.std.proofs.Common.{◌≤◌, map, length}
 use Rattle.c_tree.specs.StatementView.{view_part}
 use Rattle.c_grammar.specs.Reading.{read}
 use Rattle.c_grammar.specs.Rules.{all_initializers}
-use Rattle.expression_parser.proofs.Loops.{Loop}
+use Rattle.c_grammar.proofs.Loops.{Loop}
 use Rattle.statement_parser.specs.PartList.{with_part}
 use Rattle.statement_parser.proofs.part.parts.Given as goal
 

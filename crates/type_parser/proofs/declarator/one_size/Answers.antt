@@ -5,7 +5,7 @@ use Rattle.c_grammar.specs.declared.kind.Kind.TheVariants as k
 use Rattle.c_grammar.specs.Kind.{kind}
 use Rattle.c_grammar.specs.Reading.{read}
 use Rattle.c_grammar.specs.Rules.{at_most_one_size}
-use Rattle.expression_parser.proofs.Joining.{erred}
+use Rattle.c_grammar.proofs.Joining.{erred}
 use Rattle.type_parser.proofs.DeclaratorLists.{one_fails}
 use Rattle.type_parser.proofs.declarator.one_size.Goals as goal
 

@@ -3,7 +3,7 @@ use Rattle.std.specs.Prelude.{option_map}
 use Rattle.c_tree.specs.View.{view_expression}
 use Rattle.c_grammar.specs.Reading.{read}
 use Rattle.c_grammar.specs.Rules.{all_sizes}
-use Rattle.expression_parser.proofs.Loops.{Loop}
+use Rattle.c_grammar.proofs.Loops.{Loop}
 use Rattle.type_parser.specs.DeclaratorParts.{sized}
 use Rattle.type_parser.proofs.declarator.sizes.Given as goal
 

@@ -3,8 +3,8 @@ use Rattle.c_tree.specs.Tree.{no_parameters}
 use Rattle.c_tree.specs.View.{view_parameter, parameters_of}
 use Rattle.c_grammar.specs.declared.kind.Kind.TheVariants as k
 use Rattle.c_grammar.specs.Kind.{kind, same_kind}
-use Rattle.expression_parser.proofs.Joining.{erred}
-use Rattle.expression_parser.proofs.Loops.{loop_turn, loop_ends, loop_fails, pushed}
+use Rattle.c_grammar.proofs.Joining.{erred}
+use Rattle.c_grammar.proofs.Loops.{loop_turn, loop_ends, loop_fails, pushed}
 use Rattle.type_parser.proofs.ParameterLists.{parameters_turn, parameters_fail, parameters_shorter, parameters_end, parameters_stop, before_none}
 use Rattle.type_parser.proofs.parameter.more_parameters.Goals as goal
 

@@ -2,8 +2,8 @@ use Rattle.std.proofs.Common.{map, length}
 use Rattle.c_tree.specs.View.{view_parameter}
 use Rattle.c_grammar.specs.Reading.{read}
 use Rattle.c_grammar.specs.Rules.{more_parameters}
-use Rattle.expression_parser.specs.Lists.{mapped}
-use Rattle.expression_parser.proofs.Loops.{Loop}
+use Rattle.c_grammar.specs.Lists.{mapped}
+use Rattle.c_grammar.proofs.Loops.{Loop}
 use Rattle.type_parser.specs.ParameterList.{with_parameter}
 use Rattle.type_parser.proofs.parameter.more_parameters.Given as goal
 

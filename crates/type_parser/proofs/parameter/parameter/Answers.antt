@@ -1,6 +1,6 @@
 use Rattle.std.proofs.Common.{map, sym, subst}
 use Rattle.c_tree.specs.View.{view_parameter, view_specifier, specifiers_of}
-use Rattle.expression_parser.specs.Gives.{Gives}
+use Rattle.c_grammar.specs.Gives.{Gives}
 use Rattle.type_parser.proofs.ParameterLists.{parameter_on}
 use Rattle.type_parser.proofs.parameter.parameter.Goals as goal
 

@@ -1,5 +1,5 @@
 use Rattle.std.proofs.Common.{[]}
-use Rattle.expression_parser.proofs.Loops.{loop_begins, loop_turn, loop_ends, before_same}
+use Rattle.c_grammar.proofs.Loops.{loop_begins, loop_turn, loop_ends, before_same}
 use Rattle.type_parser.proofs.DeclaratorLists.{quals_end, quals_turn, quals_shorter}
 use Rattle.type_parser.proofs.pointer.quals.Goals as goal
 

@@ -1,7 +1,7 @@
 use Rattle.std.proofs.Common.{◌∷◌, length}
 use Rattle.c_grammar.specs.Reading.{read}
 use Rattle.c_grammar.specs.Rules.{all_quals}
-use Rattle.expression_parser.proofs.Loops.{Loop}
+use Rattle.c_grammar.proofs.Loops.{Loop}
 use Rattle.type_parser.proofs.pointer.quals.Given as goal
 
 abbrev pub invariant-loop-qual : goal.invariant-loop-qual

@@ -3,8 +3,8 @@ use Rattle.c_grammar.specs.declared.kind.Kind.TheVariants as k
 use Rattle.c_grammar.specs.Kind.{kind, same_kind}
 use Rattle.c_grammar.specs.Reading.{read}
 use Rattle.c_grammar.specs.Rules.{all_stars}
-use Rattle.expression_parser.proofs.Joining.{erred}
-use Rattle.expression_parser.proofs.Loops.{loop_turn, loop_ends, loop_fails, before_same}
+use Rattle.c_grammar.proofs.Joining.{erred}
+use Rattle.c_grammar.proofs.Loops.{loop_turn, loop_ends, loop_fails, before_same}
 use Rattle.type_parser.proofs.DeclaratorLists.{stars_turn, stars_fail, stars_shorter, stars_end}
 use Rattle.type_parser.proofs.pointer.stars.Goals as goal
 

@@ -1,7 +1,7 @@
 use Rattle.std.proofs.Common.{◌∷◌, length}
 use Rattle.c_grammar.specs.Reading.{read}
 use Rattle.c_grammar.specs.Rules.{all_stars}
-use Rattle.expression_parser.proofs.Loops.{Loop}
+use Rattle.c_grammar.proofs.Loops.{Loop}
 use Rattle.type_parser.proofs.pointer.stars.Given as goal
 
 abbrev pub invariant-loop-alloc : goal.invariant-loop-alloc

@@ -3,7 +3,7 @@ use Rattle.c_tree.specs.Tree.{specifiers}
 use Rattle.c_tree.specs.View.{view_specifier}
 use Rattle.c_grammar.specs.Reading.{read}
 use Rattle.c_grammar.specs.Rules.{all_specifiers}
-use Rattle.expression_parser.proofs.Loops.{Loop}
+use Rattle.c_grammar.proofs.Loops.{Loop}
 use Rattle.type_parser.proofs.specifier.specifiers.Given as goal
 
 abbrev pub invariant-loop-words : goal.invariant-loop-words

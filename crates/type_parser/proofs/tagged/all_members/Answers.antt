@@ -2,9 +2,9 @@ use Rattle.std.proofs.Common.{◌≡◌, map, true, false, refl, subst}
 use Rattle.c_tree.specs.Tree.{no_members}
 use Rattle.c_tree.specs.View.{view_member, members_of}
 use Rattle.c_grammar.specs.Body.{got}
-use Rattle.expression_parser.specs.Performing.{perform}
-use Rattle.expression_parser.proofs.Joining.{erred}
-use Rattle.expression_parser.proofs.Loops.{loop_turn, loop_ends, loop_fails, pushed}
+use Rattle.c_grammar.specs.Performing.{perform}
+use Rattle.c_grammar.proofs.Joining.{erred}
+use Rattle.c_grammar.proofs.Loops.{loop_turn, loop_ends, loop_fails, pushed}
 use Rattle.type_parser.specs.Tagged.{one_member}
 use Rattle.type_parser.proofs.TaggedMembers.{members_turn, members_last, members_fail, members_shorter, members_none}
 use Rattle.type_parser.proofs.tagged.all_members.Goals as goal

@@ -2,9 +2,9 @@ use Rattle.std.proofs.Common.{◌≡◌, [], ◌∷◌, ◌++◌, map, Some, Non
 use Rattle.c_tree.specs.Tree.{no_enumerators}
 use Rattle.c_tree.specs.View.{view_enumerator, enumerators_of}
 use Rattle.c_grammar.specs.Body.{got}
-use Rattle.expression_parser.specs.Performing.{perform}
-use Rattle.expression_parser.proofs.Joining.{erred}
-use Rattle.expression_parser.proofs.Loops.{loop_turn, loop_ends, loop_fails, pushed}
+use Rattle.c_grammar.specs.Performing.{perform}
+use Rattle.c_grammar.proofs.Joining.{erred}
+use Rattle.c_grammar.proofs.Loops.{loop_turn, loop_ends, loop_fails, pushed}
 use Rattle.type_parser.specs.Tagged.{one_enumerator}
 use Rattle.type_parser.proofs.TaggedEnumerators.{enumerators_turn, enumerators_last, enumerators_fail, enumerators_shorter, enumerators_none}
 use Rattle.type_parser.proofs.tagged.enumerators.Goals as goal

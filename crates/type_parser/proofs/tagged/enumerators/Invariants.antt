@@ -2,7 +2,7 @@ use Rattle.std.proofs.Common.{map, length}
 use Rattle.c_tree.specs.View.{view_enumerator}
 use Rattle.c_grammar.specs.Reading.{read}
 use Rattle.c_grammar.specs.Rules.{all_enumerators}
-use Rattle.expression_parser.proofs.Loops.{Loop}
+use Rattle.c_grammar.proofs.Loops.{Loop}
 use Rattle.type_parser.specs.Tagged.{with_enumerator}
 use Rattle.type_parser.proofs.tagged.enumerators.Given as goal
 

@@ -1,6 +1,6 @@
 use Rattle.std.proofs.Common.{map, sym, subst}
 use Rattle.c_tree.specs.View.{view_specifier, view_declarator, view_member, specifiers_of, declarators_of}
-use Rattle.expression_parser.specs.Gives.{Gives}
+use Rattle.c_grammar.specs.Gives.{Gives}
 use Rattle.type_parser.proofs.TaggedMembers.{member_parts}
 use Rattle.type_parser.proofs.tagged.member.Goals as goal
 

@@ -3,8 +3,8 @@ use Rattle.c_tree.specs.Tree.{no_declarators}
 use Rattle.c_tree.specs.View.{view_declarator, declarators_of}
 use Rattle.c_grammar.specs.declared.kind.Kind.TheVariants as k
 use Rattle.c_grammar.specs.Kind.{kind, same_kind}
-use Rattle.expression_parser.proofs.Joining.{erred}
-use Rattle.expression_parser.proofs.Loops.{loop_turn, loop_ends, loop_fails, pushed}
+use Rattle.c_grammar.proofs.Joining.{erred}
+use Rattle.c_grammar.proofs.Loops.{loop_turn, loop_ends, loop_fails, pushed}
 use Rattle.type_parser.proofs.TaggedDeclarators.{declarators_turn, declarators_fail, declarators_shorter, declarators_end, declarators_none}
 use Rattle.type_parser.proofs.tagged.more_declarators.Goals as goal
 

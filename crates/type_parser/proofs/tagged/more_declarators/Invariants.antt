@@ -3,8 +3,8 @@ use Rattle.c_tree.specs.Tree.{declarators}
 use Rattle.c_tree.specs.View.{view_declarator}
 use Rattle.c_grammar.specs.Reading.{read}
 use Rattle.c_grammar.specs.Rules.{more_declarators}
-use Rattle.expression_parser.specs.Lists.{mapped}
-use Rattle.expression_parser.proofs.Loops.{Loop}
+use Rattle.c_grammar.specs.Lists.{mapped}
+use Rattle.c_grammar.proofs.Loops.{Loop}
 use Rattle.type_parser.proofs.tagged.more_declarators.Given as goal
 
 abbrev pub invariant-loop-cursor : goal.invariant-loop-cursor

@@ -1,6 +1,6 @@
 use Rattle.std.proofs.Common.{map, sym, subst}
 use Rattle.c_tree.specs.View.{view_expression, expressions_of}
-use Rattle.expression_parser.specs.Gives.{Gives}
+use Rattle.c_grammar.specs.Gives.{Gives}
 use Rattle.expression_parser.proofs.Listing.{arguments_first}
 use Rattle.expression_parser.proofs.grammar.Grammar.all_arguments.Goals as goal
 

@@ -3,9 +3,9 @@ use Rattle.c_tree.specs.Tree.{no_expressions}
 use Rattle.c_tree.specs.View.{view_expression, expressions_of}
 use Rattle.c_grammar.specs.declared.kind.Kind.TheVariants as k
 use Rattle.c_grammar.specs.Kind.{kind, same_kind}
-use Rattle.expression_parser.proofs.Joining.{erred}
+use Rattle.c_grammar.proofs.Joining.{erred}
 use Rattle.expression_parser.proofs.Listing.{arguments_turn, arguments_fail, arguments_shorter, arguments_end, arguments_stop, before_none}
-use Rattle.expression_parser.proofs.Loops.{loop_turn, loop_ends, loop_fails, pushed}
+use Rattle.c_grammar.proofs.Loops.{loop_turn, loop_ends, loop_fails, pushed}
 use Rattle.expression_parser.proofs.grammar.Grammar.more_arguments.Goals as goal
 
 pub returns-in_err-next : goal.returns-in_err-next

@@ -3,8 +3,8 @@ use Rattle.c_tree.specs.Tree.{expressions}
 use Rattle.c_tree.specs.View.{view_expression}
 use Rattle.c_grammar.specs.Reading.{read}
 use Rattle.c_grammar.specs.Rules.{more_arguments}
-use Rattle.expression_parser.specs.Lists.{mapped}
-use Rattle.expression_parser.proofs.Loops.{Loop}
+use Rattle.c_grammar.specs.Lists.{mapped}
+use Rattle.c_grammar.proofs.Loops.{Loop}
 use Rattle.expression_parser.proofs.grammar.Grammar.more_arguments.Given as goal
 
 abbrev pub invariant-loop-cursor : goal.invariant-loop-cursor

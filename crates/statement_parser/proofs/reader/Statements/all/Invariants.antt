@@ -3,7 +3,7 @@ use Rattle.c_tree.specs.Tree.{statements}
 use Rattle.c_tree.specs.StatementView.{view_statement}
 use Rattle.c_grammar.specs.Reading.{read}
 use Rattle.c_grammar.specs.Rules.{all_statements}
-use Rattle.expression_parser.proofs.Loops.{Loop}
+use Rattle.c_grammar.proofs.Loops.{Loop}
 use Rattle.statement_parser.specs.Context.{view_context}
 use Rattle.statement_parser.proofs.reader.Statements.all.Given as goal
 

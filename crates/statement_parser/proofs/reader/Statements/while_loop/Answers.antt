@@ -1,5 +1,5 @@
 use Rattle.c_tree.specs.View.{view_expression}
-use Rattle.expression_parser.proofs.Joining.{erred}
+use Rattle.c_grammar.proofs.Joining.{erred}
 use Rattle.statement_parser.specs.Context.{view_context}
 use Rattle.statement_parser.specs.Parts.{while_repeated}
 use Rattle.statement_parser.proofs.Conditions.{condition_gives, condition_fails}

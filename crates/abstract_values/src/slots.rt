@@ -22,8 +22,12 @@ impl Model for Slots {
     ghost use Rattle.std.specs.Prelude.{List};
     ghost use Rattle.abstract_values.specs.declared.slot.Slot.{Slot};
     ghost use Rattle.abstract_values.specs.declared.slot_value.SlotValue.{SlotValue};
+    ghost use Rattle.abstract_values.specs.contracts.slot_value.SlotValue as value;
+    ghost use Rattle.std.specs.Coded.{codes};
 
     ghost Value = { List (Slot × SlotValue) };
+
+    ghost coded = { Prim.hlevel (codes, value.the_row.coded) };
 
     ghost use Rattle.abstract_values.specs.Entries.{AreSlots};
 

@@ -1,1 +1,4 @@
--- Laws and lemmas.
+pub mod Numbers
+pub mod Sets
+pub mod Places
+pub mod Codes

@@ -2,3 +2,9 @@ pub mod Numbers
 pub mod Sets
 pub mod Places
 pub mod Codes
+pub mod Functions
+pub mod Keys
+pub mod Values
+pub mod Entries
+pub mod Walks
+pub mod Laws

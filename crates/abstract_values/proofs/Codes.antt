@@ -1,12 +1,12 @@
 -- Lists of codes that rise: what is in them, with a code more, and within one another.
 use Rattle.std.proofs.Common.{inl, inr, ◌≡◌, ℕ, zero, suc, ◌+◌, ◌<◌, ◌≤◌, ◌^◌, List, [], ◌∷◌, ◌++◌, length, take, drop, get_or, refl, ap, sym, ◌∙◌, subst, arith, Bool, true, false, cond, nat_eq, nat_lt, ◌==◌, ◌||◌}
-use Rattle.std.specs.Prelude.{IsTrue, ◌↔◌, not}
+use Rattle.std.specs.Prelude.{IsTrue, ◌↔◌, not, Option, None, Some, slice_get}
 use Rattle.std.specs.List.{insert}
 use Rattle.std.proofs.lemmas.Bool.{eqb-true, eqb-false, cases_lt, false≢true}
 use Rattle.std.proofs.lemmas.Bool.Decides.{nat_tests}
 use Rattle.abstract_values.specs.Places.{leading}
 use Rattle.abstract_values.specs.Codes.{AreCodes, has_code, with_code, codes_join, CodesUnder}
-use Rattle.abstract_values.proofs.Places.{behind, behind_more, Begins, past, Walk}
+use Rattle.abstract_values.proofs.Places.{behind, behind_more, Met, past, Walk}
 
 abbrev pub lower : ℕ → ℕ → Bool
 lower a b = nat_lt a b
@@ -68,43 +68,37 @@ codes-with n code (c ∷ codes) le lt h = by_tests (λ less. codes-with (c + 1) 
 abbrev pub place : ℕ → List ℕ → ℕ
 place code codes = leading (λ c. lower c code) codes
 
--- the code stands where the search ends
-abbrev pub Stands : ℕ → List ℕ → ℕ → Type 0
-Stands code codes at = (at < length codes) × (get_or codes at 0 ≡ code)
-
 abbrev Present : ℕ → List ℕ → Type 0
 Present code codes = (with_code code codes ≡ codes) × (has_code codes code ≡ true)
 
-pub present_at : (code : ℕ) (codes : List ℕ) → Stands code codes (place code codes) → Present code codes
-present_at code [] h = let within = h.0 in absurd (omega arith)
+pub present_at : (code : ℕ) (codes : List ℕ) → slice_get codes (place code codes) ≡ Some code → Present code codes
+present_at code [] h = absurd cc
 present_at code (c ∷ codes) h = by_test (present_at code codes) (nat_lt c code) refl h
   where
-    by_test : (Stands code codes (place code codes) → Present code codes) → (t : Bool) → nat_lt c code ≡ t → Stands code (c ∷ codes) (cond t (suc (place code codes)) 0)
+    by_test : (slice_get codes (place code codes) ≡ Some code → Present code codes) → (t : Bool) → nat_lt c code ≡ t → slice_get (c ∷ codes) (cond t (suc (place code codes)) 0) ≡ Some code
         → (cond t (c ∷ with_code code codes) (cond (c == code) (c ∷ codes) (code ∷ c ∷ codes)) ≡ c ∷ codes) × (((c == code) || has_code codes code) ≡ true)
     by_test ih true less h =
-        let within = h.0 in
-        let rest = ih (omega arith, h.1) in
-        let no : (c == code) ≡ false = grind (arith, nat_tests) in
-        (ap (λ l. c ∷ l) rest.0, rw no rest.1)
+        let rest = ih h in
+        let never : (c == code) ≡ false = grind (arith, nat_tests) in
+        (ap (λ l. c ∷ l) rest.0, rw never rest.1)
     by_test ih false less h =
-        let is : c ≡ code = h.1 in
+        let is : c ≡ code = cc in
         let same : (c == code) ≡ true = grind (arith, nat_tests) in
         rw same (refl, refl)
 
 abbrev Absent : ℕ → List ℕ → Type 0
 Absent code codes = (insert codes (place code codes) code ≡ with_code code codes) × (has_code codes code ≡ false)
 
-pub absent_at : (n code : ℕ) (codes : List ℕ) → AreCodes n codes → (Stands code codes (place code codes) → ⊥) → Absent code codes
+pub absent_at : (n code : ℕ) (codes : List ℕ) → AreCodes n codes → (slice_get codes (place code codes) ≡ Some code → ⊥) → Absent code codes
 absent_at n code [] h apart = (refl, refl)
 absent_at n code (c ∷ codes) h apart = by_test (absent_at (c + 1) code codes h.2) (nat_lt c code) refl (c == code) refl apart
   where
-    by_test : ((Stands code codes (place code codes) → ⊥) → Absent code codes) → (t : Bool) → nat_lt c code ≡ t → (s : Bool) → (c == code) ≡ s
-        → (Stands code (c ∷ codes) (cond t (suc (place code codes)) 0) → ⊥)
+    by_test : ((slice_get codes (place code codes) ≡ Some code → ⊥) → Absent code codes) → (t : Bool) → nat_lt c code ≡ t → (s : Bool) → (c == code) ≡ s
+        → (slice_get (c ∷ codes) (cond t (suc (place code codes)) 0) ≡ Some code → ⊥)
         → (insert (c ∷ codes) (cond t (suc (place code codes)) 0) code ≡ cond t (c ∷ with_code code codes) (cond s (c ∷ codes) (code ∷ c ∷ codes))) × ((s || has_code codes code) ≡ false)
     by_test ih true less true same apart = let e = eqb-true c code same in absurd (grind (arith, nat_tests))
-    by_test ih true less false same apart =
-        let rest = ih (λ h. apart (let within = h.0 in omega arith, h.1)) in (ap (λ l. c ∷ l) rest.0, rest.1)
-    by_test ih false less true same apart = absurd (apart (omega arith, eqb-true c code same))
+    by_test ih true less false same apart = let rest = ih apart in (ap (λ l. c ∷ l) rest.0, rest.1)
+    by_test ih false less true same apart = absurd (apart (ap Some (eqb-true c code same)))
     by_test ih false less false same apart =
         let l : code < c + 1 = grind (arith, nat_tests) in (refl, absent_below (c + 1) codes code h.2 l)
 
@@ -133,8 +127,8 @@ past_has c q (o ∷ others) le h = ap (λ l. has_code l q) (behind_more (λ y. l
   where
     by_test : (has_code others q ≡ true → has_code (past lower equal c others) q ≡ true) → (t : Bool) → nat_lt o c ≡ t → has_code (cond t (past lower equal c others) (o ∷ others)) q ≡ true
     by_test ih true less =
-        let no : (o == q) ≡ false = grind (arith, nat_tests) in
-        ih (ap (λ b. b || has_code others q) (sym no) ∙ h)
+        let never : (o == q) ≡ false = grind (arith, nat_tests) in
+        ih (ap (λ b. b || has_code others q) (sym never) ∙ h)
     by_test ih false less = h
 
 codes_past : (n c : ℕ) (others : List ℕ) → AreCodes n others → AreCodes n (past lower equal c others)
@@ -145,40 +139,40 @@ codes_past n c (o ∷ others) h = subst (AreCodes n) (sym (behind_more (λ y. lo
     by_test ih true = let le = h.0 in codes_from n (o + 1) _ (omega arith) ih
     by_test ih false = h
 
-begins_past : (n c : ℕ) (others : List ℕ) → AreCodes n others → has_code others c ≡ true → Begins lower equal c (past lower equal c others)
-begins_past n c [] h m = absurd cc
-begins_past n c (o ∷ others) h m = subst (Begins lower equal c) (sym (behind_more (λ y. lower y c) o others)) (by_test (begins_past (o + 1) c others h.2) (nat_lt o c) refl)
+met_past : (n c : ℕ) (others : List ℕ) → AreCodes n others → has_code others c ≡ true → Met lower equal c (slice_get (past lower equal c others) 0)
+met_past n c [] h m = absurd cc
+met_past n c (o ∷ others) h m = subst (λ l. Met lower equal c (slice_get l 0)) (sym (behind_more (λ y. lower y c) o others)) (by_test (met_past (o + 1) c others h.2) (nat_lt o c) refl (o == c) refl)
   where
-    by_test : (has_code others c ≡ true → Begins lower equal c (past lower equal c others)) → (t : Bool) → nat_lt o c ≡ t → Begins lower equal c (cond t (past lower equal c others) (o ∷ others))
-    by_test ih true less =
-        let no : (o == c) ≡ false = grind (arith, nat_tests) in
-        ih (ap (λ b. b || has_code others c) (sym no) ∙ m)
-    by_test ih false less = by_same (o == c) refl
-      where
-        by_same : (s : Bool) → (o == c) ≡ s → o ≡ c
-        by_same true same = eqb-true o c same
-        by_same false same =
-            let le : c < o + 1 = grind (arith, nat_tests) in
-            let gone = absent_below (o + 1) others c h.2 le in
-            let rest : has_code others c ≡ true = ap (λ b. b || has_code others c) (sym same) ∙ m in
-            absurd cc
+    by_test : (has_code others c ≡ true → Met lower equal c (slice_get (past lower equal c others) 0)) → (t : Bool) → nat_lt o c ≡ t → (s : Bool) → (o == c) ≡ s
+        → Met lower equal c (slice_get (cond t (past lower equal c others) (o ∷ others)) 0)
+    by_test ih true less s same =
+        let never : (o == c) ≡ false = grind (arith, nat_tests) in
+        ih (ap (λ b. b || has_code others c) (sym never) ∙ m)
+    by_test ih false less true same = eqb-true o c same
+    by_test ih false less false same =
+        let le : c < o + 1 = grind (arith, nat_tests) in
+        let gone = absent_below (o + 1) others c h.2 le in
+        let rest : has_code others c ≡ true = ap (λ b. b || has_code others c) (sym same) ∙ m in
+        absurd cc
 
-has_begin : (c : ℕ) (others : List ℕ) → Begins lower equal c others → has_code others c ≡ true
-has_begin c [] h = absurd h
-has_begin c (o ∷ others) h = let same : (o == c) ≡ true = grind (arith, nat_tests) in ap (λ b. b || has_code others c) same
+has_met : (c : ℕ) (others : List ℕ) → Met lower equal c (slice_get others 0) → has_code others c ≡ true
+has_met c [] h = absurd h
+has_met c (o ∷ others) h =
+    let is : o ≡ c = h in
+    let same : (o == c) ≡ true = grind (arith, nat_tests) in ap (λ b. b || has_code others c) same
 
 walk_under : (codes others : List ℕ) → Walk lower equal codes others → CodesUnder codes others
 walk_under [] others w q h = absurd cc
 walk_under (c ∷ codes) others w q h =
     has_past c q others (or_cases (c == q) (has_code codes q) _
-    (λ e. subst (λ x. has_code (past lower equal c others) x ≡ true) (eqb-true c q e) (has_begin c (past lower equal c others) w.0))
+    (λ e. subst (λ x. has_code (past lower equal c others) x ≡ true) (eqb-true c q e) (has_met c (past lower equal c others) w.0))
     (walk_under codes (past lower equal c others) w.1 q) h)
 
 under_walk : (m n : ℕ) (codes others : List ℕ) → AreCodes m codes → AreCodes n others → CodesUnder codes others → Walk lower equal codes others
 under_walk m n [] others h k u = tt
 under_walk m n (c ∷ codes) others h k u =
     let self : (c == c) ≡ true = grind (arith, nat_tests) in (
-      begins_past n c others k (u c (ap (λ b. b || has_code codes c) self)),
+      met_past n c others k (u c (ap (λ b. b || has_code codes c) self)),
       under_walk (c + 1) n codes (past lower equal c others) h.2 (codes_past n c others k) (λ q e. past_has c q others (above q e) (u q (or_true (c == q) _ e))),
     )
   where
@@ -268,3 +262,12 @@ join_is_some c codes others e =
     let found = codes_join_left (c ∷ codes) others c (ap (λ b. b || has_code codes c) self) in
     let none : has_code (codes_join (c ∷ codes) others) c ≡ false = ap (λ l. has_code l c) e in
     absurd cc
+
+-- ---- what stands at a place
+pub met_at : (o : Option ℕ) (code : ℕ) → Met lower equal code o → o ≡ Some code
+met_at None code h = absurd h
+met_at (Some c) code h = ap Some h
+
+pub at_met : (o : Option ℕ) (code : ℕ) → o ≡ Some code → Met lower equal code o
+at_met None code e = absurd cc
+at_met (Some c) code e = cc

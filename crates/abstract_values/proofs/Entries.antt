@@ -1,17 +1,16 @@
 -- Slots as a map: look-ups, changes, walks and joins.
 use Rattle.std.proofs.Common.{◌≡◌, ℕ, suc, ◌<◌, List, [], ◌∷◌, ◌++◌, length, drop, set, refl, sym, ap, ◌∙◌, subst, arith, Bool, true, false, cond}
-use Rattle.std.specs.Prelude.{Option, Some, None, IfSome, slice_get, ◌↔◌}
+use Rattle.std.specs.Prelude.{Option, Some, None, slice_get}
 use Rattle.std.specs.List.{insert, remove}
 use Rattle.std.specs.declared.cmp.Ordering.TheVariants.{Less}
 use Rattle.abstract_values.specs.declared.slot.Slot.{Slot}
 use Rattle.abstract_values.specs.declared.slot_value.SlotValue.{SlotValue}
 use Rattle.abstract_values.specs.Places.{leading}
 use Rattle.abstract_values.specs.Keys.{slot_cmp, is_before, is_same}
-use Rattle.abstract_values.specs.Values.{ValueUnder, value_join, is_unknown, known, HasRisingCodes, IsKept}
-use Rattle.abstract_values.specs.Entries.{Entry, slot_at, AreSlotsAbove, AreSlots, Puts, SlotUnder, SlotsUnder, entry_of, joined_entry, slots_join}
-use Rattle.abstract_values.proofs.Places.{behind, behind_more, Begins, past, Walk}
+use Rattle.abstract_values.specs.Values.{ValueUnder, known, IsKept}
+use Rattle.abstract_values.specs.Entries.{Entry, slot_at, AreSlotsAbove, AreSlots, Puts, HasKey}
 use Rattle.abstract_values.proofs.Keys.{same_slot, self_same, before_less, before_trans, not_same, not_same_back, behind_is}
-use Rattle.abstract_values.proofs.Values.{value_antisymmetric, slot_join, IsKnown, known_is, known_known, value_join_codes}
+use Rattle.abstract_values.proofs.Values.{IsKnown, known_is, known_known}
 
 abbrev pub earlier : Entry → Entry → Bool
 earlier e f = is_before e.0 f.0
@@ -42,10 +41,10 @@ slot_at_known (e ∷ es) k = by_test (slot_at_known es k) (is_same e.0 k)
     by_test ih true = known_known e.1
     by_test ih false = ih
 
-slot_here : (e : Entry) (es : List Entry) (k : Slot) → is_same e.0 k ≡ true → slot_at (e ∷ es) k ≡ known e.1
+pub slot_here : (e : Entry) (es : List Entry) (k : Slot) → is_same e.0 k ≡ true → slot_at (e ∷ es) k ≡ known e.1
 slot_here e es k same = ap (λ b. cond b (known e.1) (slot_at es k)) same
 
-slot_later : (e : Entry) (es : List Entry) (k : Slot) → is_same e.0 k ≡ false → slot_at (e ∷ es) k ≡ slot_at es k
+pub slot_later : (e : Entry) (es : List Entry) (k : Slot) → is_same e.0 k ≡ false → slot_at (e ∷ es) k ≡ slot_at es k
 slot_later e es k apart = ap (λ b. cond b (known e.1) (slot_at es k)) apart
 
 pub slot_first : (e : Entry) (es : List Entry) → IsKept e.1 → slot_at (e ∷ es) e.0 ≡ Some e.1
@@ -74,7 +73,7 @@ slot_at_place (e ∷ es) key h = by_test (slot_at_place es key (slots_tail e.0 e
 -- ---- changes
 abbrev pub with_entry : Slot → SlotValue → List Entry → List Entry
 with_entry s v [] = (s, v) ∷ []
-with_entry s v (e ∷ es) = cond (is_before e.0 s) (e ∷ with_entry s v es) (cond (is_same e.0 s) ((e.0, v) ∷ es) ((s, v) ∷ e ∷ es))
+with_entry s v (e ∷ es) = cond (is_before e.0 s) (e ∷ with_entry s v es) (cond (is_same e.0 s) ((s, v) ∷ es) ((s, v) ∷ e ∷ es))
 
 abbrev pub without_entry : Slot → List Entry → List Entry
 without_entry s [] = []
@@ -85,16 +84,16 @@ with_entry_puts s v [] k = refl
 with_entry_puts s v (e ∷ es) k = by_tests (with_entry_puts s v es k) (is_before e.0 s) refl (is_same e.0 s) refl
   where
     crossed : (x y : Bool) → (x ≡ true → y ≡ true → ⊥) → cond x (known e.1) (cond y (known v) (slot_at es k)) ≡ cond y (known v) (cond x (known e.1) (slot_at es k))
-    crossed true true no = absurd (no refl refl)
-    crossed true false no = refl
-    crossed false y no = refl
+    crossed true true never = absurd (never refl refl)
+    crossed true false never = refl
+    crossed false y never = refl
 
     twice : (x : Bool) → cond x (known v) (slot_at es k) ≡ cond x (known v) (cond x (known e.1) (slot_at es k))
     twice true = refl
     twice false = refl
 
     by_tests : slot_at (with_entry s v es) k ≡ cond (is_same s k) (known v) (slot_at es k) → (t : Bool) → is_before e.0 s ≡ t → (u : Bool) → is_same e.0 s ≡ u
-        → slot_at (cond t (e ∷ with_entry s v es) (cond u ((e.0, v) ∷ es) ((s, v) ∷ e ∷ es))) k ≡ cond (is_same s k) (known v) (cond (is_same e.0 k) (known e.1) (slot_at es k))
+        → slot_at (cond t (e ∷ with_entry s v es) (cond u ((s, v) ∷ es) ((s, v) ∷ e ∷ es))) k ≡ cond (is_same s k) (known v) (cond (is_same e.0 k) (known e.1) (slot_at es k))
     by_tests ih true before u same =
         ap (λ x. cond (is_same e.0 k) (known e.1) x) ih
         ∙ crossed (is_same e.0 k) (is_same s k) (λ a b.
@@ -105,7 +104,7 @@ with_entry_puts s v (e ∷ es) k = by_tests (with_entry_puts s v es k) (is_befor
         let tied : is_same e.0 s ≡ true = subst (λ x. is_same e.0 x ≡ true) equal (self_same e.0) in absurd cc)
     by_tests ih false before true same =
         let equal = same_slot e.0 s same in
-        subst (λ x. slot_at ((e.0, v) ∷ es) k ≡ cond (is_same x k) (known v) (cond (is_same e.0 k) (known e.1) (slot_at es k))) equal (twice (is_same e.0 k))
+        subst (λ x. cond (is_same s k) (known v) (slot_at es k) ≡ cond (is_same s k) (known v) (cond (is_same x k) (known e.1) (slot_at es k))) (sym equal) (twice (is_same s k))
     by_tests ih false before false same = refl
 
 pub with_entry_above : (j s : Slot) (v : SlotValue) (es : List Entry) → slot_cmp j s ≡ Less → IsKept v → AreSlotsAbove j es → AreSlotsAbove j (with_entry s v es)
@@ -113,9 +112,9 @@ with_entry_above j s v [] less kept h = (less, kept, tt)
 with_entry_above j s v (e ∷ es) less kept h = by_tests (λ l. with_entry_above e.0 s v es l kept h.2) (is_before e.0 s) refl (is_same e.0 s) refl
   where
     by_tests : (slot_cmp e.0 s ≡ Less → AreSlotsAbove e.0 (with_entry s v es)) → (t : Bool) → is_before e.0 s ≡ t → (u : Bool) → is_same e.0 s ≡ u
-        → AreSlotsAbove j (cond t (e ∷ with_entry s v es) (cond u ((e.0, v) ∷ es) ((s, v) ∷ e ∷ es)))
+        → AreSlotsAbove j (cond t (e ∷ with_entry s v es) (cond u ((s, v) ∷ es) ((s, v) ∷ e ∷ es)))
     by_tests ih true before u same = (h.0, h.1, ih (before_less e.0 s before))
-    by_tests ih false before true same = (h.0, kept, h.2)
+    by_tests ih false before true same = (less, kept, subst (λ x. AreSlotsAbove x es) (same_slot e.0 s same) h.2)
     by_tests ih false before false same = (less, kept, (behind_is e.0 s before same, h.1, h.2))
 
 pub with_entry_slots : (s : Slot) (v : SlotValue) (es : List Entry) → IsKept v → AreSlots es → AreSlots (with_entry s v es)
@@ -123,9 +122,9 @@ with_entry_slots s v [] kept h = (kept, tt)
 with_entry_slots s v (e ∷ es) kept h = by_tests (λ l. with_entry_above e.0 s v es l kept h.1) (is_before e.0 s) refl (is_same e.0 s) refl
   where
     by_tests : (slot_cmp e.0 s ≡ Less → AreSlotsAbove e.0 (with_entry s v es)) → (t : Bool) → is_before e.0 s ≡ t → (u : Bool) → is_same e.0 s ≡ u
-        → AreSlots (cond t (e ∷ with_entry s v es) (cond u ((e.0, v) ∷ es) ((s, v) ∷ e ∷ es)))
+        → AreSlots (cond t (e ∷ with_entry s v es) (cond u ((s, v) ∷ es) ((s, v) ∷ e ∷ es)))
     by_tests ih true before u same = (h.0, ih (before_less e.0 s before))
-    by_tests ih false before true same = (kept, h.1)
+    by_tests ih false before true same = (kept, subst (λ x. AreSlotsAbove x es) (same_slot e.0 s same) h.1)
     by_tests ih false before false same = (kept, (behind_is e.0 s before same, h.0, h.1))
 
 pub without_entry_above : (j s : Slot) (es : List Entry) → AreSlotsAbove j es → AreSlotsAbove j (without_entry s es)
@@ -149,23 +148,23 @@ without_entry_slots s (e ∷ es) h = by_tests (is_before e.0 s) (is_same e.0 s)
 pub without_entry_puts : (s : Slot) (es : List Entry) → AreSlots es → Puts s None es (without_entry s es)
 without_entry_puts s [] h k = none (is_same s k)
   where
-    none : (x : Bool) → None ≡ cond x None None
+    none : (x : Bool) → ◌≡◌ {A = Option SlotValue} None (cond x None None)
     none true = refl
     none false = refl
 without_entry_puts s (e ∷ es) h k = by_tests (without_entry_puts s es (slots_tail e.0 es h.1) k) (is_before e.0 s) refl (is_same e.0 s) refl
   where
     crossed : (x y : Bool) → (x ≡ true → y ≡ true → ⊥) → cond x (known e.1) (cond y None (slot_at es k)) ≡ cond y None (cond x (known e.1) (slot_at es k))
-    crossed true true no = absurd (no refl refl)
-    crossed true false no = refl
-    crossed false y no = refl
+    crossed true true never = absurd (never refl refl)
+    crossed true false never = refl
+    crossed false y never = refl
 
     gone : (x : Bool) → (x ≡ true → slot_at es k ≡ None) → slot_at es k ≡ cond x None (cond x (known e.1) (slot_at es k))
-    gone true no = no refl
-    gone false no = refl
+    gone true when = when refl
+    gone false when = refl
 
     stays : (x : Bool) → (x ≡ true → slot_at (e ∷ es) k ≡ None) → slot_at (e ∷ es) k ≡ cond x None (slot_at (e ∷ es) k)
-    stays true no = no refl
-    stays false no = refl
+    stays true when = when refl
+    stays false when = refl
 
     by_tests : slot_at (without_entry s es) k ≡ cond (is_same s k) None (slot_at es k) → (t : Bool) → is_before e.0 s ≡ t → (u : Bool) → is_same e.0 s ≡ u
         → slot_at (cond t (e ∷ without_entry s es) (cond u es (e ∷ es))) k ≡ cond (is_same s k) None (cond (is_same e.0 k) (known e.1) (slot_at es k))
@@ -184,58 +183,63 @@ without_entry_puts s (e ∷ es) h k = by_tests (without_entry_puts s es (slots_t
     by_tests ih false before false same =
         stays (is_same s k) (λ t. subst (λ x. slot_at (e ∷ es) x ≡ None) (same_slot s k t) (absent_above s (e ∷ es) (behind_is e.0 s before same, h.0, h.1)))
 
--- where the search for a key ends at an entry of the key, and where not
-abbrev pub Stands : Slot → Entry → List Entry → ℕ → Type 0
-Stands key e es at = (slice_get es at ≡ Some e) × (is_same e.0 key ≡ true)
+-- the entry at a place has the key, or not
+abbrev pub Stands : Slot → List Entry → ℕ → Type 0
+Stands key es at = HasKey key (slice_get es at)
 
-abbrev pub Misses : Slot → List Entry → ℕ → Type 0
-Misses key es at = (e : Entry) → Stands key e es at → ⊥
-
-pub replaced : (s : Slot) (v : SlotValue) (e : Entry) (es : List Entry) → Stands s e es (place s es) → set es (place s es) (e.0, v) ≡ with_entry s v es
-replaced s v e [] h = let at = h.0 in absurd cc
-replaced s v e (f ∷ es) h = by_tests (replaced s v e es) (is_before f.0 s) (is_same f.0 s) refl h
+pub replaced : (s : Slot) (v : SlotValue) (es : List Entry) → Stands s es (place s es) → set es (place s es) (s, v) ≡ with_entry s v es
+replaced s v [] h = absurd h
+replaced s v (f ∷ es) h = by_tests (replaced s v es) (is_before f.0 s) (is_same f.0 s) refl h
   where
-    by_tests : (Stands s e es (place s es) → set es (place s es) (e.0, v) ≡ with_entry s v es) → (t u : Bool) → is_same f.0 s ≡ u → Stands s e (f ∷ es) (cond t (suc (place s es)) 0)
-        → set (f ∷ es) (cond t (suc (place s es)) 0) (e.0, v) ≡ cond t (f ∷ with_entry s v es) (cond u ((f.0, v) ∷ es) ((s, v) ∷ f ∷ es))
+    by_tests : (Stands s es (place s es) → set es (place s es) (s, v) ≡ with_entry s v es) → (t u : Bool) → is_same f.0 s ≡ u → Stands s (f ∷ es) (cond t (suc (place s es)) 0)
+        → set (f ∷ es) (cond t (suc (place s es)) 0) (s, v) ≡ cond t (f ∷ with_entry s v es) (cond u ((s, v) ∷ es) ((s, v) ∷ f ∷ es))
     by_tests ih true u same h = ap (λ l. f ∷ l) (ih h)
-    by_tests ih false true same h =
-        let first : Some f ≡ Some e = h.0 in
-        let equal : f ≡ e = cc in
-        ap (λ (x : Entry). (x.0, v) ∷ es) (sym equal)
-    by_tests ih false false same h =
-        let first : Some f ≡ Some e = h.0 in
-        let equal : f ≡ e = cc in
-        let tied : is_same f.0 s ≡ true = subst (λ (x : Entry). is_same x.0 s ≡ true) (sym equal) h.1 in absurd cc
+    by_tests ih false true same h = refl
+    by_tests ih false false same h = let tied : is_same f.0 s ≡ true = h in absurd cc
 
-pub inserted : (s : Slot) (v : SlotValue) (es : List Entry) → Misses s es (place s es) → insert es (place s es) (s, v) ≡ with_entry s v es
+pub inserted : (s : Slot) (v : SlotValue) (es : List Entry) → (Stands s es (place s es) → ⊥) → insert es (place s es) (s, v) ≡ with_entry s v es
 inserted s v [] h = refl
 inserted s v (f ∷ es) h = by_tests (inserted s v es) (is_before f.0 s) (is_same f.0 s) refl h
   where
-    by_tests : (Misses s es (place s es) → insert es (place s es) (s, v) ≡ with_entry s v es) → (t u : Bool) → is_same f.0 s ≡ u → Misses s (f ∷ es) (cond t (suc (place s es)) 0)
-        → insert (f ∷ es) (cond t (suc (place s es)) 0) (s, v) ≡ cond t (f ∷ with_entry s v es) (cond u ((f.0, v) ∷ es) ((s, v) ∷ f ∷ es))
+    by_tests : ((Stands s es (place s es) → ⊥) → insert es (place s es) (s, v) ≡ with_entry s v es) → (t u : Bool) → is_same f.0 s ≡ u → (Stands s (f ∷ es) (cond t (suc (place s es)) 0) → ⊥)
+        → insert (f ∷ es) (cond t (suc (place s es)) 0) (s, v) ≡ cond t (f ∷ with_entry s v es) (cond u ((s, v) ∷ es) ((s, v) ∷ f ∷ es))
     by_tests ih true u same h = ap (λ l. f ∷ l) (ih h)
-    by_tests ih false true same h = absurd (h f (refl, same))
+    by_tests ih false true same h = absurd (h same)
     by_tests ih false false same h = refl
 
-pub removed : (s : Slot) (e : Entry) (es : List Entry) → Stands s e es (place s es) → remove es (place s es) ≡ without_entry s es
-removed s e [] h = let at = h.0 in absurd cc
-removed s e (f ∷ es) h = by_tests (removed s e es) (is_before f.0 s) (is_same f.0 s) refl h
+pub removed : (s : Slot) (es : List Entry) → Stands s es (place s es) → remove es (place s es) ≡ without_entry s es
+removed s [] h = absurd h
+removed s (f ∷ es) h = by_tests (removed s es) (is_before f.0 s) (is_same f.0 s) refl h
   where
-    by_tests : (Stands s e es (place s es) → remove es (place s es) ≡ without_entry s es) → (t u : Bool) → is_same f.0 s ≡ u → Stands s e (f ∷ es) (cond t (suc (place s es)) 0)
+    by_tests : (Stands s es (place s es) → remove es (place s es) ≡ without_entry s es) → (t u : Bool) → is_same f.0 s ≡ u → Stands s (f ∷ es) (cond t (suc (place s es)) 0)
         → remove (f ∷ es) (cond t (suc (place s es)) 0) ≡ cond t (f ∷ without_entry s es) (cond u es (f ∷ es))
     by_tests ih true u same h = ap (λ l. f ∷ l) (ih h)
     by_tests ih false true same h = refl
-    by_tests ih false false same h =
-        let first : Some f ≡ Some e = h.0 in
-        let equal : f ≡ e = cc in
-        let tied : is_same f.0 s ≡ true = subst (λ (x : Entry). is_same x.0 s ≡ true) (sym equal) h.1 in absurd cc
+    by_tests ih false false same h = let tied : is_same f.0 s ≡ true = h in absurd cc
 
-pub kept_all : (s : Slot) (es : List Entry) → Misses s es (place s es) → es ≡ without_entry s es
+pub kept_all : (s : Slot) (es : List Entry) → (Stands s es (place s es) → ⊥) → es ≡ without_entry s es
 kept_all s [] h = refl
 kept_all s (f ∷ es) h = by_tests (kept_all s es) (is_before f.0 s) (is_same f.0 s) refl h
   where
-    by_tests : (Misses s es (place s es) → es ≡ without_entry s es) → (t u : Bool) → is_same f.0 s ≡ u → Misses s (f ∷ es) (cond t (suc (place s es)) 0)
+    by_tests : ((Stands s es (place s es) → ⊥) → es ≡ without_entry s es) → (t u : Bool) → is_same f.0 s ≡ u → (Stands s (f ∷ es) (cond t (suc (place s es)) 0) → ⊥)
         → f ∷ es ≡ cond t (f ∷ without_entry s es) (cond u es (f ∷ es))
     by_tests ih true u same h = ap (λ l. f ∷ l) (ih h)
-    by_tests ih false true same h = absurd (h f (refl, same))
+    by_tests ih false true same h = absurd (h same)
     by_tests ih false false same h = refl
+
+-- what a look-up answers, by whether the entry at the place has the key
+pub found_there : (s : Slot) (e : Entry) (es : List Entry) → AreSlots es → slice_get es (place s es) ≡ Some e → Stands s es (place s es) → Some e.1 ≡ slot_at es s
+found_there s e es h at stands =
+    let same : is_same e.0 s ≡ true = subst (HasKey s) at stands in
+    sym (slot_at_place es s h ∙ ap (found s) at ∙ ap (λ b. cond b (Some e.1) None) same)
+
+pub found_nowhere : (s : Slot) (es : List Entry) → AreSlots es → (Stands s es (place s es) → ⊥) → None ≡ slot_at es s
+found_nowhere s es h misses = sym (slot_at_place es s h ∙ none (slice_get es (place s es)) misses)
+  where
+    by_test : (e : Entry) → (t : Bool) → (t ≡ true → ⊥) → cond t (Some e.1) None ≡ None
+    by_test e true never = absurd (never refl)
+    by_test e false never = refl
+
+    none : (o : Option Entry) → (HasKey s o → ⊥) → found s o ≡ None
+    none None never = refl
+    none (Some e) never = by_test e (is_same e.0 s) never

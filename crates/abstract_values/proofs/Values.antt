@@ -11,7 +11,7 @@ use Rattle.abstract_values.specs.Values.{ValueUnder, value_join, is_unknown, kno
 use Rattle.abstract_values.specs.Entries.{SlotUnder}
 use Rattle.abstract_values.proofs.Numbers.{int_refl, int_trans, int_antisymmetric, int_join_left, int_join_right, int_join_least, int_any_up}
 use Rattle.abstract_values.proofs.Sets.{set_refl, set_trans, set_antisymmetric, set_join_left, set_join_right, set_join_least, set_any_up, set_join_some}
-use Rattle.abstract_values.proofs.Functions.{fns_refl, fns_trans, fns_antisymmetric, fns_join_left, fns_join_right, fns_join_least, fns_any_up, fns_join_some, fns_join_codes}
+use Rattle.abstract_values.proofs.FunctionOrder.{fns_refl, fns_trans, fns_antisymmetric, fns_join_left, fns_join_right, fns_join_least, fns_any_up, fns_join_some, fns_join_codes}
 
 pub value_refl : (v : SlotValue) → ValueUnder v v
 value_refl (Number a) = int_refl a
@@ -108,7 +108,7 @@ known_down v w h e = by_test (is_unknown v) refl
 pub slot_join_left : (x y : Option SlotValue) → SlotUnder x (slot_join x y)
 slot_join_left None y = tt
 slot_join_left (Some v) None = tt
-slot_join_left (Some (Number a)) (Some (Number b)) = known_up _ _ (int_join_left a b)
+slot_join_left (Some (Number a)) (Some (Number b)) = known_up (Number a) (value_join (Number a) (Number b)) (int_join_left a b)
 slot_join_left (Some (Signals s)) (Some (Signals t)) = known_up (Signals s) (value_join (Signals s) (Signals t)) (set_join_left s t)
 slot_join_left (Some (Functions f)) (Some (Functions g)) = known_up (Functions f) (value_join (Functions f) (Functions g)) (fns_join_left f g)
 slot_join_left (Some (Action f s a)) (Some (Action g t b)) = known_up (Action f s a) (value_join (Action f s a) (Action g t b)) (fns_join_left f g, set_join_left s t, int_join_left a b)

@@ -1,13 +1,15 @@
 -- Two maps of slots walked side by side: their order and their join.
-use Rattle.std.proofs.Common.{◌≡◌, ℕ, suc, List, [], ◌∷◌, ◌++◌, refl, sym, ap, ◌∙◌, subst, Bool, true, false, cond}
-use Rattle.std.specs.Prelude.{Option, Some, None, IfSome, ◌↔◌}
+use Rattle.std.proofs.Common.{◌≡◌, ℕ, ◌+◌, List, [], ◌∷◌, ◌++◌, drop, refl, sym, ap, ◌∙◌, subst, Bool, true, false, cond}
+use Rattle.std.specs.Prelude.{Option, Some, None, IfSome, ◌↔◌, slice_get}
 use Rattle.std.specs.declared.cmp.Ordering.TheVariants.{Less}
+use Rattle.std.proofs.lemmas.List.{drop-drop}
+use Rattle.abstract_values.specs.Places.{leading}
 use Rattle.abstract_values.specs.declared.slot.Slot.{Slot}
 use Rattle.abstract_values.specs.declared.slot_value.SlotValue.{SlotValue}
 use Rattle.abstract_values.specs.Keys.{slot_cmp, is_before, is_same}
 use Rattle.abstract_values.specs.Values.{ValueUnder, value_join, is_unknown, known, IsFormed, HasRisingCodes, IsKept}
-use Rattle.abstract_values.specs.Entries.{Entry, slot_at, AreSlotsAbove, AreSlots, SlotUnder, SlotsUnder, entry_of, joined_entry, slots_join}
-use Rattle.abstract_values.proofs.Places.{behind_more, Begins, past, Walk}
+use Rattle.abstract_values.specs.Entries.{Entry, slot_at, AreSlotsAbove, AreSlots, SlotUnder, SlotsUnder, IsMet, entry_of, common, joined_entry, slots_join}
+use Rattle.abstract_values.proofs.Places.{behind_more, past, Walk, first_of_drop}
 use Rattle.abstract_values.proofs.Keys.{same_slot, self_same, before_less, before_trans, not_same, not_same_back, behind_is}
 use Rattle.abstract_values.proofs.Values.{value_antisymmetric, slot_join, known_is, value_join_codes}
 use Rattle.abstract_values.proofs.Entries.{earlier, meets, slots_above, slots_tail, absent_above, slot_here, slot_later, slot_first}
@@ -79,7 +81,7 @@ under_from : (x y : Option SlotValue) → ((y ≡ None → ⊥) → SlotUnder x 
 under_from x None h = tt
 under_from x (Some w) h = h (λ e. cc)
 
-begins_under : (e : Entry) (l : List Entry) → Begins earlier meets e l → SlotUnder (first_at e.0 l) (Some e.1)
+begins_under : (e : Entry) (l : List Entry) → IsMet e (slice_get l 0) → SlotUnder (first_at e.0 l) (Some e.1)
 begins_under e [] b = absurd b
 begins_under e (o ∷ os) b = by_test (is_same o.0 e.0) b.0
   where
@@ -87,7 +89,7 @@ begins_under e (o ∷ os) b = by_test (is_same o.0 e.0) b.0
     by_test true is = b.1
     by_test false is = absurd cc
 
-under_begins : (e : Entry) (l : List Entry) → SlotUnder (first_at e.0 l) (Some e.1) → Begins earlier meets e l
+under_begins : (e : Entry) (l : List Entry) → SlotUnder (first_at e.0 l) (Some e.1) → IsMet e (slice_get l 0)
 under_begins e [] u = u
 under_begins e (o ∷ os) u = by_test (is_same o.0 e.0) refl u
   where
@@ -97,17 +99,15 @@ under_begins e (o ∷ os) u = by_test (is_same o.0 e.0) refl u
 
 walk_to : (upper lower : List Entry) → AreSlots upper → AreSlots lower → Walk earlier meets upper lower → SlotsUnder lower upper
 walk_to [] lower h l w k = tt
-walk_to (e ∷ us) lower h l w k = by_same (is_same e.0 k) refl
+walk_to (e ∷ us) lower h l w k = by_same (walk_to us (rest e lower) (slots_tail e.0 us h.1) (rest_slots e lower l) w.1) (is_same e.0 k) refl
   where
-    later : (SlotsUnder (rest e lower) us) → SlotUnder (slot_at lower k) (slot_at us k)
-    later ih = under_from _ _ (λ stands. subst (λ x. SlotUnder x (slot_at us k)) (split_at e us lower k h.1 stands) (ih k))
-
-    by_same : (s : Bool) → is_same e.0 k ≡ s → SlotUnder (slot_at lower k) (cond s (known e.1) (slot_at us k))
-    by_same true same =
+    by_same : SlotsUnder (rest e lower) us → (s : Bool) → is_same e.0 k ≡ s → SlotUnder (slot_at lower k) (cond s (known e.1) (slot_at us k))
+    by_same ih true same =
         let at : SlotUnder (slot_at lower e.0) (Some e.1) = subst (λ x. SlotUnder x (Some e.1)) (sym (slot_at_rest e lower l)) (begins_under e (rest e lower) w.0) in
         let here = subst (λ x. SlotUnder (slot_at lower x) (Some e.1)) (same_slot e.0 k same) at in
         subst (SlotUnder (slot_at lower k)) (sym (known_is e.1 h.0.known)) here
-    by_same false same = later (walk_to us (rest e lower) (slots_tail e.0 us h.1) (rest_slots e lower l) w.1)
+    by_same ih false same =
+        under_from _ _ (λ stands. subst (λ x. SlotUnder x (slot_at us k)) (split_at e us lower k h.1 stands) (ih k))
 
 walk_from : (upper lower : List Entry) → AreSlots upper → AreSlots lower → SlotsUnder lower upper → Walk earlier meets upper lower
 walk_from [] lower h l u = tt
@@ -128,17 +128,13 @@ pub walk_is_under : (lower upper : List Entry) → AreSlots lower → AreSlots u
 walk_is_under lower upper l h = (walk_to upper lower h l, walk_from upper lower h l)
 
 -- ---- the join
-abbrev pub joined_first : Entry → List Entry → List Entry
-joined_first e [] = []
-joined_first e (o ∷ os) = cond (is_same o.0 e.0) (entry_of e.0 (value_join e.1 o.1)) []
-
 abbrev pub walk_join : List Entry → List Entry → List Entry
 walk_join [] right = []
-walk_join (e ∷ es) right = joined_first e (rest e right) ++ walk_join es (rest e right)
+walk_join (e ∷ es) right = common e (slice_get (rest e right) 0) ++ walk_join es (rest e right)
 
-joined_first_is : (e : Entry) (l : List Entry) → joined_first e l ≡ joined_entry e (first_at e.0 l)
-joined_first_is e [] = refl
-joined_first_is e (o ∷ os) = by_test (is_same o.0 e.0)
+common_is : (e : Entry) (l : List Entry) → common e (slice_get l 0) ≡ joined_entry e (first_at e.0 l)
+common_is e [] = refl
+common_is e (o ∷ os) = by_test (is_same o.0 e.0)
   where
     by_test : (t : Bool) → cond t (entry_of e.0 (value_join e.1 o.1)) [] ≡ joined_entry e (cond t (Some o.1) None)
     by_test true = refl
@@ -165,14 +161,14 @@ not_before j k less = by_test (is_before k j) refl
 walk_join_tail : (j : Slot) (es right : List Entry) → AreSlotsAbove j es → AreSlots right → walk_join es right ≡ slots_join es right
 walk_join_tail j [] right h r = refl
 walk_join_tail j (e ∷ es) right h r =
-    let first : joined_first e (rest e right) ≡ joined_entry e (slot_at right e.0) = joined_first_is e (rest e right) ∙ ap (joined_entry e) (sym (slot_at_rest e right r)) in
+    let first : common e (slice_get (rest e right) 0) ≡ joined_entry e (slot_at right e.0) = common_is e (rest e right) ∙ ap (joined_entry e) (sym (slot_at_rest e right r)) in
     let others = walk_join_tail e.0 es (rest e right) h.2 (rest_slots e right r) ∙ joins_alike es (rest e right) right e.0 h.2 (λ k less. rest_at e right k (not_before e.0 k less)) in
     λ i. first i ++ others i
 
 pub walk_join_is : (es right : List Entry) → AreSlots es → AreSlots right → walk_join es right ≡ slots_join es right
 walk_join_is [] right h r = refl
 walk_join_is (e ∷ es) right h r =
-    let first : joined_first e (rest e right) ≡ joined_entry e (slot_at right e.0) = joined_first_is e (rest e right) ∙ ap (joined_entry e) (sym (slot_at_rest e right r)) in
+    let first : common e (slice_get (rest e right) 0) ≡ joined_entry e (slot_at right e.0) = common_is e (rest e right) ∙ ap (joined_entry e) (sym (slot_at_rest e right r)) in
     let others = walk_join_tail e.0 es (rest e right) h.1 (rest_slots e right r) ∙ joins_alike es (rest e right) right e.0 h.1 (λ k less. rest_at e right k (not_before e.0 k less)) in
     λ i. first i ++ others i
 
@@ -304,3 +300,12 @@ slots_antisymmetric (e ∷ es) (o ∷ os) h k up down =
             let left : slot_at (x ∷ xs) q ≡ slot_at xs q = slot_later x xs q (subst (λ z. is_same z q ≡ false) (sym same) apart) in
             let right : slot_at (y ∷ ys) q ≡ slot_at ys q = slot_later y ys q apart in
             subst (SlotUnder (slot_at xs q)) right (subst (λ o. SlotUnder o (slot_at (y ∷ ys) q)) left (under q))
+
+-- ---- one step of the walk that joins
+pub walk_join_step : (es right : List Entry) (i at next : ℕ) (e : Entry) → drop i es ≡ e ∷ drop (i + 1) es → next ≡ at + leading (λ o. is_before o.0 e.0) (drop at right)
+    → walk_join (drop i es) (drop at right) ≡ common e (slice_get right next) ++ walk_join (drop (i + 1) es) (drop next right)
+walk_join_step es right i at next e here is =
+    let there : rest e (drop at right) ≡ drop next right = drop-drop (leading (λ o. is_before o.0 e.0) (drop at right)) at right ∙ ap (λ n. drop n right) (sym is) in
+    ap (λ l. walk_join l (drop at right)) here
+    ∙ ap (λ l. common e (slice_get l 0) ++ walk_join (drop (i + 1) es) l) there
+    ∙ ap (λ o. common e o ++ walk_join (drop (i + 1) es) (drop next right)) (first_of_drop right next)

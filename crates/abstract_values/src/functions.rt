@@ -61,7 +61,7 @@ impl FnList {
         ensures err { OnErr result (self.new ≡ self.old) }
     {
         let place = place_of(&self.codes, 0, code);
-        if place < self.codes.len() && self.codes[place] == code {
+        if is_at(&self.codes, place, code) {
             return Ok(false);
         }
         match self.codes.insert(place, code) {
@@ -112,6 +112,16 @@ fn place_of(codes: &[u64], start: usize, code: u64) -> usize
     place
 }
 
+/// Whether the code stands at this place.
+fn is_at(codes: &[u64], place: usize, code: u64) -> bool
+    ensures { IsTrue result ↔ (slice_get codes.now place ≡ Some code) }
+{
+    match codes.get(place) {
+        Some(there) => *there == code,
+        None => false,
+    }
+}
+
 /// Whether each code is one of the others, where both rise.
 fn are_below(codes: &[u64], others: &[u64]) -> bool
     requires codes { AreCodes 0 codes.now }
@@ -121,7 +131,7 @@ fn are_below(codes: &[u64], others: &[u64]) -> bool
     let mut place = 0;
     for &code in codes {
         place = place_of(others, place, code);
-        if place == others.len() || others[place] != code {
+        if !is_at(others, place, code) {
             return false;
         }
     }

@@ -1,0 +1,18 @@
+use Rattle.std.proofs.Common.{rules, ◌≡◌, ◌↔◌, ℕ, ◌+◌, ◌^◌, ◌<◌, ◌≤◌, List, [], ◌∷◌, drop, length, slice_get, OnOk, OnErr, IfOk, IfSome, IsTrue, not, nat_lt, ◌-◌, ◌*◌, ◌/◌, ◌%◌, Bool, true, false, nat_eq, ◌++◌, slice_index_or, slice_set, bit_and, bit_or, Fits, w8, w32, w64, Bor, MutBor}
+use Rattle.std.specs.Bool.{OnFalse}
+use Rattle.abstract_values.specs.Places.{leading}
+use Rattle.abstract_values.specs.Codes.{AreCodes, has_code, with_code, codes_join, CodesUnder}
+use Rattle.abstract_values.specs.Functions.{FnsUnder, fns_join, is_any_fns, HasCodes}
+use Rattle.abstract_values.proofs.functions.are_below.Goals as goal
+
+-- src/functions.rt:135:13
+pub returns-then-not-is_at : goal.returns-then-not-is_at
+returns-then-not-is_at c = ?
+
+-- src/functions.rt:132:5
+pub loop-code-preserved : goal.loop-code-preserved
+loop-code-preserved c = ?
+
+-- src/functions.rt:126:1
+pub returns : goal.returns
+returns c = ?

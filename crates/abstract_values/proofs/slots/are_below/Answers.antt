@@ -1,0 +1,20 @@
+use Rattle.std.proofs.Common.{rules, ◌≡◌, ◌↔◌, ℕ, List, [], ◌∷◌, ◌+◌, ◌++◌, ◌<◌, ◌≤◌, drop, length, slice_get, slice_set, OnOk, OnErr, IfOk, IsTrue, None, ◌-◌, ◌*◌, ◌/◌, ◌%◌, Bool, true, false, nat_eq, nat_lt, slice_index_or, bit_and, bit_or, Fits, w8, w32, w64, Bor, MutBor}
+use Rattle.std.specs.List.{remove}
+use Rattle.std.specs.Option.{option_copied, option_map}
+use Rattle.abstract_values.specs.Places.{leading}
+use Rattle.abstract_values.specs.Keys.{is_before}
+use Rattle.abstract_values.specs.Values.{known, value_join, IsKept}
+use Rattle.abstract_values.specs.Entries.{slot_at, AreSlots, Puts, SlotsUnder, HasKey, IsMet, entry_of, common, slots_join}
+use Rattle.abstract_values.proofs.slots.are_below.Goals as goal
+
+-- src/slots.rt:253:13
+pub returns-then-not-is_met : goal.returns-then-not-is_met
+returns-then-not-is_met c = ?
+
+-- src/slots.rt:250:5
+pub loop-entry-preserved : goal.loop-entry-preserved
+loop-entry-preserved c = ?
+
+-- src/slots.rt:244:1
+pub returns : goal.returns
+returns c = ?

@@ -1,6 +1,6 @@
 -- Lists of codes that rise: what is in them, with a code more, and within one another.
-use Rattle.std.proofs.Common.{inl, inr, ◌≡◌, ℕ, zero, suc, ◌+◌, ◌<◌, ◌≤◌, ◌^◌, List, [], ◌∷◌, ◌++◌, length, take, drop, get_or, refl, ap, sym, ◌∙◌, subst, arith, Bool, true, false, cond, nat_eq, nat_lt, ◌==◌, ◌||◌}
-use Rattle.std.specs.Prelude.{IsTrue, ◌↔◌, not, Option, None, Some, slice_get}
+use Rattle.std.proofs.Common.{inl, inr, ◌≡◌, ℕ, zero, suc, ◌+◌, ◌<◌, ◌≤◌, ◌^◌, List, [], ◌∷◌, ◌++◌, length, take, drop, get_or, refl, ap, sym, zero-add, ◌∙◌, subst, arith, Bool, true, false, cond, nat_eq, nat_lt, ◌==◌, ◌||◌}
+use Rattle.std.specs.Prelude.{IsTrue, ◌↔◌, not, Option, None, Some, IfSome, slice_get}
 use Rattle.std.specs.List.{insert}
 use Rattle.std.proofs.lemmas.Bool.{eqb-true, eqb-false, cases_lt, false≢true}
 use Rattle.std.proofs.lemmas.Bool.Decides.{nat_tests}
@@ -271,3 +271,26 @@ met_at (Some c) code h = ap Some h
 pub at_met : (o : Option ℕ) (code : ℕ) → o ≡ Some code → Met lower equal code o
 at_met None code e = absurd cc
 at_met (Some c) code e = cc
+
+-- ---- as the search for a place answers
+place_is : (code p : ℕ) (l s : List ℕ) → l ≡ s → p ≡ 0 + leading (λ c. nat_lt c code) (drop 0 l) → p ≡ place code s
+place_is code p l s e is = is ∙ zero-add _ ∙ ap (place code) e
+
+pub present : (code p : ℕ) (l m s : List ℕ) → l ≡ s → m ≡ s → p ≡ 0 + leading (λ c. nat_lt c code) (drop 0 l) → slice_get m p ≡ Some code → (with_code code s ≡ s) × (has_code s code ≡ true)
+present code p l m s e f is at =
+    let here = place_is code p l s e is in
+    present_at code s (ap (slice_get s) (sym here) ∙ ap (λ x. slice_get x p) (sym f) ∙ at)
+
+pub added : (code p : ℕ) (l m s : List ℕ) → l ≡ s → m ≡ s → p ≡ 0 + leading (λ c. nat_lt c code) (drop 0 l) → AreCodes 0 s → (slice_get m p ≡ Some code → ⊥) → (insert s p code ≡ with_code code s) × (has_code s code ≡ false)
+added code p l m s e f is are never =
+    let here = place_is code p l s e is in
+    let both = absent_at 0 code s are (λ at. never (ap (λ x. slice_get x p) f ∙ ap (slice_get s) here ∙ at)) in
+    (ap (λ n. insert s n code) here ∙ both.0, both.1)
+
+pub code_in_range : (codes : List ℕ) (k : ℕ) → AreCodes 0 codes → IfSome (slice_get codes k) (λ code. code < 2 ^ 32 + 2)
+code_in_range codes k are = in_range 0 codes k are
+  where
+    in_range : (n : ℕ) (codes : List ℕ) (k : ℕ) → AreCodes n codes → IfSome (slice_get codes k) (λ code. code < 2 ^ 32 + 2)
+    in_range n [] k h = tt
+    in_range n (c ∷ codes) zero h = h.1
+    in_range n (c ∷ codes) (suc k) h = in_range (c + 1) codes k h.2

@@ -1,7 +1,8 @@
 -- Slots as a map: look-ups, changes, walks and joins.
-use Rattle.std.proofs.Common.{◌≡◌, ℕ, suc, ◌<◌, List, [], ◌∷◌, ◌++◌, length, drop, set, refl, sym, ap, ◌∙◌, subst, arith, Bool, true, false, cond}
+use Rattle.std.proofs.Common.{◌≡◌, ℕ, suc, ◌<◌, List, [], ◌∷◌, ◌++◌, length, drop, set, refl, sym, ap, zero-add, get_or, ◌+◌, ◌∙◌, subst, arith, Bool, true, false, cond}
 use Rattle.std.specs.Prelude.{Option, Some, None, slice_get}
 use Rattle.std.specs.List.{insert, remove}
+use Rattle.std.proofs.lemmas.Option.{slice_get_read}
 use Rattle.std.specs.declared.cmp.Ordering.TheVariants.{Less}
 use Rattle.abstract_values.specs.declared.slot.Slot.{Slot}
 use Rattle.abstract_values.specs.declared.slot_value.SlotValue.{SlotValue}
@@ -243,3 +244,37 @@ found_nowhere s es h misses = sym (slot_at_place es s h ∙ none (slice_get es (
     none : (o : Option Entry) → (HasKey s o → ⊥) → found s o ≡ None
     none None never = refl
     none (Some e) never = by_test e (is_same e.0 s) never
+
+-- ---- as the search for a place answers
+place_is : (key : Slot) (p : ℕ) (l s : List Entry) → l ≡ s → p ≡ 0 + leading (λ e. is_before e.0 key) (drop 0 l) → p ≡ place key s
+place_is key p l s e is = is ∙ zero-add _ ∙ ap (place key) e
+
+module _ (key : Slot) (p : ℕ) (l m s : List Entry) (e : l ≡ s) (f : m ≡ s) (is : p ≡ 0 + leading (λ e. is_before e.0 key) (drop 0 l)) where
+  here : p ≡ place key s
+  here = place_is key p l s e is
+
+  stands_of : HasKey key (slice_get m p) → Stands key s (place key s)
+  stands_of h = subst (λ n. Stands key s n) here (subst (λ x. Stands key x p) f h)
+
+  misses_of : (HasKey key (slice_get m p) → ⊥) → Stands key s (place key s) → ⊥
+  misses_of never h = never (subst (λ x. Stands key x p) (sym f) (subst (λ n. Stands key s n) (sym here) h))
+
+  pub removed_is : HasKey key (slice_get m p) → remove s p ≡ without_entry key s
+  removed_is h = ap (remove s) here ∙ removed key s (stands_of h)
+
+  pub kept_is : (HasKey key (slice_get m p) → ⊥) → s ≡ without_entry key s
+  kept_is never = kept_all key s (misses_of never)
+
+  pub replaced_is : (v : SlotValue) → HasKey key (slice_get m p) → set s p (key, v) ≡ with_entry key v s
+  replaced_is v h = ap (λ n. set s n (key, v)) here ∙ replaced key v s (stands_of h)
+
+  pub inserted_is : (v : SlotValue) → (HasKey key (slice_get m p) → ⊥) → insert s p (key, v) ≡ with_entry key v s
+  inserted_is v never = ap (λ n. insert s n (key, v)) here ∙ inserted key v s (misses_of never)
+
+  pub found_is : (x : Entry) → AreSlots s → p < length s → x ≡ get_or s p x → HasKey key (slice_get m p) → Some x.1 ≡ slot_at s key
+  found_is x are within read h =
+      let at : slice_get s p ≡ Some x = slice_get_read s (length s) p x refl within read in
+      found_there key x s are (ap (slice_get s) (sym here) ∙ at) (stands_of h)
+
+  pub nowhere_is : AreSlots s → (HasKey key (slice_get m p) → ⊥) → None ≡ slot_at s key
+  nowhere_is are never = found_nowhere key s are (misses_of never)

@@ -8,3 +8,4 @@ pub mod Values
 pub mod Entries
 pub mod Walks
 pub mod Laws
+pub mod Outcomes

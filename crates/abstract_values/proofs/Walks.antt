@@ -1,14 +1,15 @@
 -- Two maps of slots walked side by side: their order and their join.
-use Rattle.std.proofs.Common.{◌≡◌, ℕ, ◌+◌, List, [], ◌∷◌, ◌++◌, drop, refl, sym, ap, ◌∙◌, subst, Bool, true, false, cond}
+use Rattle.std.proofs.Common.{◌≡◌, ℕ, ◌+◌, ◌<◌, length, get_or, List, [], ◌∷◌, ◌++◌, drop, refl, sym, ap, ◌∙◌, subst, Bool, true, false, cond}
 use Rattle.std.specs.Prelude.{Option, Some, None, IfSome, ◌↔◌, slice_get}
 use Rattle.std.specs.declared.cmp.Ordering.TheVariants.{Less}
 use Rattle.std.proofs.lemmas.List.{drop-drop}
+use Rattle.std.proofs.lemmas.Option.{slice_get_read}
 use Rattle.abstract_values.specs.Places.{leading}
 use Rattle.abstract_values.specs.declared.slot.Slot.{Slot}
 use Rattle.abstract_values.specs.declared.slot_value.SlotValue.{SlotValue}
 use Rattle.abstract_values.specs.Keys.{slot_cmp, is_before, is_same}
 use Rattle.abstract_values.specs.Values.{ValueUnder, value_join, is_unknown, known, IsFormed, HasRisingCodes, IsKept}
-use Rattle.abstract_values.specs.Entries.{Entry, slot_at, AreSlotsAbove, AreSlots, SlotUnder, SlotsUnder, IsMet, entry_of, common, joined_entry, slots_join}
+use Rattle.abstract_values.specs.Entries.{Entry, slot_at, AreSlotsAbove, AreSlots, SlotUnder, SlotsUnder, HasKey, IsMet, entry_of, common, joined_entry, slots_join}
 use Rattle.abstract_values.proofs.Places.{behind_more, past, Walk, first_of_drop}
 use Rattle.abstract_values.proofs.Keys.{same_slot, self_same, before_less, before_trans, not_same, not_same_back, behind_is}
 use Rattle.abstract_values.proofs.Values.{value_antisymmetric, slot_join, known_is, value_join_codes}
@@ -309,3 +310,17 @@ walk_join_step es right i at next e here is =
     ap (λ l. walk_join l (drop at right)) here
     ∙ ap (λ l. common e (slice_get l 0) ++ walk_join (drop (i + 1) es) l) there
     ∙ ap (λ o. common e o ++ walk_join (drop (i + 1) es) (drop next right)) (first_of_drop right next)
+
+pub common_at : (e o : Entry) (others : List Entry) (p : ℕ) → p < length others → o ≡ get_or others p o → HasKey e.0 (slice_get others p) → entry_of e.0 (value_join e.1 o.1) ≡ common e (slice_get others p)
+common_at e o others p within read h =
+    let at : slice_get others p ≡ Some o = slice_get_read others (length others) p o refl within read in
+    let same : is_same o.0 e.0 ≡ true = subst (HasKey e.0) at h in
+    sym (ap (common e) at ∙ ap (λ b. cond b (entry_of e.0 (value_join e.1 o.1)) []) same)
+
+pub common_none : (e : Entry) (there : Option Entry) → (HasKey e.0 there → ⊥) → common e there ≡ []
+common_none e None never = refl
+common_none e (Some o) never = by_test (is_same o.0 e.0) never
+  where
+    by_test : (t : Bool) → (t ≡ true → ⊥) → cond t (entry_of e.0 (value_join e.1 o.1)) [] ≡ []
+    by_test true never = absurd (never refl)
+    by_test false never = refl

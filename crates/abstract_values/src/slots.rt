@@ -1,5 +1,5 @@
 ghost use Rattle.std.specs.Prelude.{◌≡◌, ◌↔◌, ℕ, List, [], ◌∷◌, ◌+◌, ◌++◌, ◌<◌, ◌≤◌, drop, length, slice_get, slice_set, OnOk, OnErr, IfOk, IsTrue, None};
-ghost use Rattle.std.specs.List.{remove};
+ghost use Rattle.std.specs.List.{insert, remove};
 ghost use Rattle.std.specs.Option.{option_copied, option_map};
 ghost use Rattle.abstract_values.specs.Places.{leading};
 ghost use Rattle.abstract_values.specs.Keys.{is_before};
@@ -169,6 +169,21 @@ fn replace_at(entries: &mut Vec<(Slot, SlotValue)>, place: usize, entry: (Slot, 
     entries[place] = entry;
 }
 
+fn insert_at(
+    entries: &mut Vec<(Slot, SlotValue)>,
+    place: usize,
+    entry: (Slot, SlotValue),
+) -> Result<(), NoMemory>
+    requires { place ≤ length entries.old.items }
+    ensures ok { OnOk result (entries.new.items ≡ insert entries.old.items place entry) }
+    ensures err { OnErr result (entries.new.items ≡ entries.old.items) }
+{
+    match entries.insert(place, entry) {
+        Ok(()) => Ok(()),
+        Err(_) => Err(NoMemory),
+    }
+}
+
 /// Takes the entry of a key away.
 fn remove_entry(entries: &mut Vec<(Slot, SlotValue)>, key: Slot)
     requires { AreSlots entries.old.items }
@@ -198,10 +213,7 @@ fn set_entry(
         replace_at(entries, place, (key, value));
         return Ok(());
     }
-    match entries.insert(place, (key, value)) {
-        Ok(()) => Ok(()),
-        Err(_) => Err(NoMemory),
-    }
+    insert_at(entries, place, (key, value))
 }
 
 fn push_copy(
@@ -285,9 +297,10 @@ fn push_joined(
 ) -> Result<(), NoMemory>
     ensures { OnOk result (all.new.items ≡ all.old.items ++ common entry.now (slice_get others.now place)) }
 {
-    match others.get(place) {
-        Some(other) if other.0.is_same(entry.0) => push_value(alloc, all, entry, &other.1),
-        _ => Ok(()),
+    if is_at(others, place, entry.0) {
+        push_value(alloc, all, entry, &others[place].1)
+    } else {
+        Ok(())
     }
 }
 

@@ -1,16 +1,16 @@
-use Rattle.std.proofs.Common.{rules, ◌≡◌, ◌↔◌, ℕ, List, [], ◌∷◌, ◌+◌, ◌++◌, ◌<◌, ◌≤◌, drop, length, slice_get, slice_set, OnOk, OnErr, IfOk, IsTrue, None, ◌-◌, ◌*◌, ◌/◌, ◌%◌, Bool, true, false, nat_eq, nat_lt, slice_index_or, bit_and, bit_or, Fits, w8, w32, w64, Bor, MutBor}
-use Rattle.std.specs.List.{remove}
-use Rattle.std.specs.Option.{option_copied, option_map}
-use Rattle.abstract_values.specs.Places.{leading}
-use Rattle.abstract_values.specs.Keys.{is_before}
-use Rattle.abstract_values.specs.Values.{known, value_join, IsKept}
-use Rattle.abstract_values.specs.Entries.{slot_at, AreSlots, Puts, SlotsUnder, HasKey, IsMet, entry_of, common, slots_join}
+use Rattle.std.proofs.Common.{◌≡◌, ◌++◌, sym, ap, ◌∙◌, subst, true, false}
+use Rattle.std.specs.Prelude.{OnOk}
+use Rattle.std.proofs.lemmas.List.{append-nil}
+use Rattle.abstract_values.proofs.Walks.{common_at, common_none}
 use Rattle.abstract_values.proofs.slots.push_joined.Goals as goal
 
--- src/slots.rt:279:1
-pub returns-in_default : goal.returns-in_default
-returns-in_default c = ?
+pub returns-then-is_at : goal.returns-then-is_at
+returns-then-is_at c =
+    subst (λ l. OnOk c.push_value.result (c.push_value.new.all.items ≡ c.args.all.now.items ++ l))
+    (common_at c.args.entry.now c.index-others-place.result.now c.args.others.now c.args.place (c.is_at.ensures.within c.if-is_at.true) c.index-others-place.ensures (c.is_at.ensures.at.0 c.if-is_at.true))
+    c.push_value.ensures
 
--- src/slots.rt:279:1
-pub returns-in_default-2 : goal.returns-in_default-2
-returns-in_default-2 c = ?
+pub returns-else-is_at : goal.returns-else-is_at
+returns-else-is_at c =
+    sym (ap (λ l. c.args.all.now.items ++ l) (common_none c.args.entry.now _ (λ h. let stands = c.is_at.ensures.at.1 h in let not = c.if-is_at.false in absurd cc))
+    ∙ append-nil c.args.all.now.items)

@@ -1,20 +1,21 @@
-use Rattle.std.proofs.Common.{rules, ◌≡◌, ◌↔◌, ℕ, List, [], ◌∷◌, ◌+◌, ◌++◌, ◌<◌, ◌≤◌, drop, length, slice_get, slice_set, OnOk, OnErr, IfOk, IsTrue, None, ◌-◌, ◌*◌, ◌/◌, ◌%◌, Bool, true, false, nat_eq, nat_lt, slice_index_or, bit_and, bit_or, Fits, w8, w32, w64, Bor, MutBor}
-use Rattle.std.specs.List.{remove}
-use Rattle.std.specs.Option.{option_copied, option_map}
-use Rattle.abstract_values.specs.Places.{leading}
-use Rattle.abstract_values.specs.Keys.{is_before}
-use Rattle.abstract_values.specs.Values.{known, value_join, IsKept}
-use Rattle.abstract_values.specs.Entries.{slot_at, AreSlots, Puts, SlotsUnder, HasKey, IsMet, entry_of, common, slots_join}
+use Rattle.std.proofs.Common.{◌≡◌, sym, ap, ◌∙◌, subst, false, true}
+use Rattle.std.specs.Prelude.{None}
+use Rattle.abstract_values.specs.Entries.{AreSlots, Puts}
+use Rattle.abstract_values.proofs.Entries.{removed_is, kept_is, without_entry_puts, without_entry_slots}
 use Rattle.abstract_values.proofs.slots.remove_entry.Goals as goal
 
--- src/slots.rt:173:1
 pub returns-then-is_at-clause-puts : goal.returns-then-is_at-clause-puts
-returns-then-is_at-clause-puts c = ?
+returns-then-is_at-clause-puts c =
+    let is = c.remove_at.ensures ∙ removed_is c.args.key _ _ _ c.args.entries.now.items c.deref.ensures.value c.deref-2.ensures.value c.place_of-place.ensures.place (c.is_at.ensures.at.0 c.if-is_at.true) in
+    subst (Puts c.args.key None c.args.entries.now.items) (sym is) (without_entry_puts c.args.key c.args.entries.now.items c.requires)
 
--- src/slots.rt:173:1
 pub returns-then-is_at-clause-slots : goal.returns-then-is_at-clause-slots
-returns-then-is_at-clause-slots c = ?
+returns-then-is_at-clause-slots c =
+    let is = c.remove_at.ensures ∙ removed_is c.args.key _ _ _ c.args.entries.now.items c.deref.ensures.value c.deref-2.ensures.value c.place_of-place.ensures.place (c.is_at.ensures.at.0 c.if-is_at.true) in
+    subst AreSlots (sym is) (without_entry_slots c.args.key c.args.entries.now.items c.requires)
 
--- src/slots.rt:173:1
 pub returns-else-is_at-clause-puts : goal.returns-else-is_at-clause-puts
-returns-else-is_at-clause-puts c = ?
+returns-else-is_at-clause-puts c =
+    let is = kept_is c.args.key _ _ _ c.args.entries.now.items c.deref.ensures.value c.deref-2.ensures.value c.place_of-place.ensures.place
+    (λ h. let stands = c.is_at.ensures.at.1 h in let not = c.if-is_at.false in absurd cc) in
+    subst (Puts c.args.key None c.args.entries.now.items) (sym is) (without_entry_puts c.args.key c.args.entries.now.items c.requires)

@@ -1,10 +1,8 @@
-use Rattle.std.proofs.Common.{rules, ◌≡◌, ◌↔◌, ℕ, ◌+◌, ◌^◌, ◌<◌, ◌≤◌, List, [], ◌∷◌, drop, length, slice_get, OnOk, OnErr, IfOk, IfSome, IsTrue, not, nat_lt, ◌-◌, ◌*◌, ◌/◌, ◌%◌, Bool, true, false, nat_eq, ◌++◌, slice_index_or, slice_set, bit_and, bit_or, Fits, w8, w32, w64, Bor, MutBor}
-use Rattle.std.specs.Bool.{OnFalse}
-use Rattle.abstract_values.specs.Places.{leading}
-use Rattle.abstract_values.specs.Codes.{AreCodes, has_code, with_code, codes_join, CodesUnder}
-use Rattle.abstract_values.specs.Functions.{FnsUnder, fns_join, is_any_fns, HasCodes}
+use Rattle.std.proofs.Common.{◌≡◌, ◌∙◌, sym, ap, subst, ◌+◌, ◌^◌, ◌<◌}
+use Rattle.std.specs.Prelude.{IfSome, slice_get}
+use Rattle.abstract_values.proofs.Codes.{code_in_range}
 use Rattle.abstract_values.proofs.functions.FnList.at.Goals as goal
 
--- src/functions.rt:48:5
 pub returns-clause-range : goal.returns-clause-range
-returns-clause-range c = ?
+returns-clause-range c =
+    subst (λ o. IfSome o (λ code. code < 2 ^ 32 + 2)) (sym (c.code_at.ensures ∙ ap (λ l. slice_get l c.args.k) c.deref.ensures.value)) (code_in_range c.self.inside.codes.items c.args.k c.self.invariant)

@@ -1,10 +1,9 @@
-use Rattle.std.proofs.Common.{rules, ◌≡◌, ◌↔◌, ℕ, ◌+◌, ◌^◌, ◌<◌, ◌≤◌, List, [], ◌∷◌, drop, length, slice_get, OnOk, OnErr, IfOk, IfSome, IsTrue, not, nat_lt, ◌-◌, ◌*◌, ◌/◌, ◌%◌, Bool, true, false, nat_eq, ◌++◌, slice_index_or, slice_set, bit_and, bit_or, Fits, w8, w32, w64, Bor, MutBor}
-use Rattle.std.specs.Bool.{OnFalse}
-use Rattle.abstract_values.specs.Places.{leading}
-use Rattle.abstract_values.specs.Codes.{AreCodes, has_code, with_code, codes_join, CodesUnder}
-use Rattle.abstract_values.specs.Functions.{FnsUnder, fns_join, is_any_fns, HasCodes}
+use Rattle.std.proofs.Common.{◌≡◌, sym, subst}
+use Rattle.abstract_values.specs.Codes.{AreCodes}
+use Rattle.abstract_values.proofs.Codes.{codes_range}
 use Rattle.abstract_values.proofs.functions.FnList.join.Goals as goal
 
--- src/functions.rt:96:13
 pub add-requires : goal.add-requires
-add-requires c = ?
+add-requires c =
+    let are = subst (AreCodes 0) (sym c.deref-code-items.ensures.value) c.o.invariant in
+    codes_range 0 _ _ 0 are c.loop-code-test.true

@@ -1,16 +1,16 @@
-use Rattle.std.proofs.Common.{rules, ◌≡◌, ◌↔◌, ℕ, List, [], ◌∷◌, ◌+◌, ◌++◌, ◌<◌, ◌≤◌, drop, length, slice_get, slice_set, OnOk, OnErr, IfOk, IsTrue, None, ◌-◌, ◌*◌, ◌/◌, ◌%◌, Bool, true, false, nat_eq, nat_lt, slice_index_or, bit_and, bit_or, Fits, w8, w32, w64, Bor, MutBor}
-use Rattle.std.specs.List.{remove}
-use Rattle.std.specs.Option.{option_copied, option_map}
-use Rattle.abstract_values.specs.Places.{leading}
-use Rattle.abstract_values.specs.Keys.{is_before}
-use Rattle.abstract_values.specs.Values.{known, value_join, IsKept}
-use Rattle.abstract_values.specs.Entries.{slot_at, AreSlots, Puts, SlotsUnder, HasKey, IsMet, entry_of, common, slots_join}
+use Rattle.std.proofs.Common.{◌≡◌, ◌<◌, length, sym, ap, ◌∙◌, subst, false, true}
+use Rattle.abstract_values.specs.Entries.{slot_at}
+use Rattle.abstract_values.proofs.Entries.{found_is, nowhere_is}
 use Rattle.abstract_values.proofs.slots.Slots.get.Goals as goal
 
--- src/slots.rt:69:5
 pub returns-then-is_at : goal.returns-then-is_at
-returns-then-is_at c = ?
+returns-then-is_at c =
+    found_is c.args.s _ _ _ c.self.inside.entries.items c.deref.ensures.value c.deref-2.ensures.value c.place_of-place.ensures.place c.index.result.now c.self.invariant
+    (subst (λ l. c.place_of-place.result < length l) c.deref-2.ensures.value (c.is_at.ensures.within c.if-is_at.true)) c.index.ensures (c.is_at.ensures.at.0 c.if-is_at.true)
+    ∙ ap (λ es. slot_at es c.args.s) c.self.view_is
 
--- src/slots.rt:69:5
 pub returns-else-is_at : goal.returns-else-is_at
-returns-else-is_at c = ?
+returns-else-is_at c =
+    nowhere_is c.args.s _ _ _ c.self.inside.entries.items c.deref.ensures.value c.deref-2.ensures.value c.place_of-place.ensures.place c.self.invariant
+    (λ h. let stands = c.is_at.ensures.at.1 h in let not = c.if-is_at.false in absurd cc)
+    ∙ ap (λ es. slot_at es c.args.s) c.self.view_is

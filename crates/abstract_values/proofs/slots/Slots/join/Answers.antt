@@ -1,12 +1,9 @@
-use Rattle.std.proofs.Common.{rules, ◌≡◌, ◌↔◌, ℕ, List, [], ◌∷◌, ◌+◌, ◌++◌, ◌<◌, ◌≤◌, drop, length, slice_get, slice_set, OnOk, OnErr, IfOk, IsTrue, None, ◌-◌, ◌*◌, ◌/◌, ◌%◌, Bool, true, false, nat_eq, nat_lt, slice_index_or, bit_and, bit_or, Fits, w8, w32, w64, Bor, MutBor}
-use Rattle.std.specs.List.{remove}
-use Rattle.std.specs.Option.{option_copied, option_map}
-use Rattle.abstract_values.specs.Places.{leading}
-use Rattle.abstract_values.specs.Keys.{is_before}
-use Rattle.abstract_values.specs.Values.{known, value_join, IsKept}
-use Rattle.abstract_values.specs.Entries.{slot_at, AreSlots, Puts, SlotsUnder, HasKey, IsMet, entry_of, common, slots_join}
+use Rattle.std.proofs.Common.{◌≡◌, sym, subst}
+use Rattle.abstract_values.specs.Entries.{AreSlots}
+use Rattle.abstract_values.proofs.Walks.{join_slots}
 use Rattle.abstract_values.proofs.slots.Slots.join.Goals as goal
 
--- src/slots.rt:120:9
 pub invariant_of-result : goal.invariant_of-result
-invariant_of-result c = ?
+invariant_of-result c =
+    subst AreSlots (sym c.in_ok-entries.ensures)
+    (join_slots _ _ (subst AreSlots (sym c.deref.ensures.value) c.self.invariant) (subst AreSlots (sym c.deref-2.ensures.value) c.o.invariant))

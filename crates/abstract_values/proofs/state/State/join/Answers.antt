@@ -1,16 +1,27 @@
-use Rattle.std.proofs.Common.{rules, ◌≡◌, ◌↔◌, OnOk, OnErr, IfOk, IsTrue, ℕ, ◌+◌, ◌-◌, ◌*◌, ◌<◌, ◌≤◌, length, ◌/◌, ◌%◌, Bool, true, false, nat_eq, nat_lt, List, [], ◌∷◌, ◌++◌, slice_index_or, slice_set, bit_and, bit_or, Fits, w8, w32, w64, Bor, MutBor}
-use Rattle.std.specs.Bool.{OnFalse}
-use Rattle.abstract_values.specs.States.{Under, IsJoin, IsWellFormed, unknown_state}
+use Rattle.std.proofs.Common.{◌≡◌, subst, false, true}
+use Rattle.abstract_values.specs.Entries.{AreSlots}
+use Rattle.abstract_values.proofs.Laws.{joins, joins_below, joins_formed}
 use Rattle.abstract_values.proofs.state.State.join.Goals as goal
 
--- src/state.rt:69:13
 pub returns-then-below-clause-join : goal.returns-then-below-clause-join
-returns-then-below-clause-join c = ?
+returns-then-below-clause-join c = joins_below _ _ (c.below.ensures.0 c.if-below.true)
 
--- src/state.rt:61:5
 pub returns-clause-join : goal.returns-clause-join
-returns-clause-join c = ?
+returns-clause-join c = joins _ _ _ (record {
+  mask = c.join-self.ensures;
+  errno = c.join-self-2.ensures;
+  alone = c.both-self.ensures;
+  bare = c.both-self-2.ensures;
+  slots = c.in_ok-self.ensures;
+  kept = subst AreSlots c.drop.view_is c.drop.invariant;
+})
 
--- src/state.rt:61:5
 pub returns-clause-formed : goal.returns-clause-formed
-returns-clause-formed c = ?
+returns-clause-formed c = joins_formed _ _ _ (record {
+  mask = c.join-self.ensures;
+  errno = c.join-self-2.ensures;
+  alone = c.both-self.ensures;
+  bare = c.both-self-2.ensures;
+  slots = c.in_ok-self.ensures;
+  kept = subst AreSlots c.drop.view_is c.drop.invariant;
+})

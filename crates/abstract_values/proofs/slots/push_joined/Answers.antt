@@ -7,7 +7,7 @@ use Rattle.abstract_values.proofs.slots.push_joined.Goals as goal
 pub returns-then-is_at : goal.returns-then-is_at
 returns-then-is_at c =
     subst (λ l. OnOk c.push_value.result (c.push_value.new.all.items ≡ c.args.all.now.items ++ l))
-    (common_at c.args.entry.now c.index-others-place.result.now c.args.others.now c.args.place (c.is_at.ensures.within c.if-is_at.true) c.index-others-place.ensures (c.is_at.ensures.at.0 c.if-is_at.true))
+    (common_at c.args.entry.now c.index-others-place.result c.args.others.now c.args.place (c.is_at.ensures.within c.if-is_at.true) c.index-others-place.is (c.is_at.ensures.at.0 c.if-is_at.true))
     c.push_value.ensures
 
 pub returns-else-is_at : goal.returns-else-is_at

@@ -7,7 +7,9 @@ use sig_set::SigSet;
 /// in `may`.
 #[derive(Clone, Copy, PartialEq, Eq)]
 pub struct AbsSet {
+    /// The signals that are surely in the set.
     pub must: SigSet,
+    /// The signals that are perhaps in the set.
     pub may: SigSet,
 }
 

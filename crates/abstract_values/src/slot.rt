@@ -6,7 +6,9 @@ use base_core::{NodeId, VarId};
 /// What has a value in a state: a variable, or a node of the tree that was evaluated.
 #[derive(Clone, Copy, PartialEq, Eq)]
 pub enum Slot {
+    /// This variable.
     Var(VarId),
+    /// This node.
     Node(NodeId),
 }
 

@@ -9,9 +9,13 @@ use std::alloc::Global;
 /// `struct sigaction` (its handler, mask and flags; POSIX.1-2017 XBD signal.h).
 #[derive(Drop)]
 pub enum SlotValue {
+    /// An integer or a pointer.
     Number(AbsInt),
+    /// A set of signals.
     Signals(AbsSet),
+    /// A function pointer.
     Functions(AbsFns),
+    /// An action: its handler, its mask and its flags.
     Action(AbsFns, AbsSet, AbsInt),
 }
 

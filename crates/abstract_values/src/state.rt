@@ -11,11 +11,13 @@ use std::alloc::Global;
 pub struct State {
     /// The thread's signal mask (POSIX.1-2017 XSH 2.4.1).
     pub mask: AbsSet,
+    /// The thread's `errno` (C11 7.5).
     pub errno: AbsInt,
     /// The process surely has one live thread.
     pub alone: bool,
     /// Surely no handler was ever installed.
     pub bare: bool,
+    /// The values of variables and of nodes.
     pub slots: Slots,
 }
 

@@ -57,29 +57,40 @@ fn abs_set(must: &[u8], may: &[u8]) -> AbsSet {
     }
 }
 
-/// Whether `a` is below `b` and `b` isn't below `a`, so that `b` is the join.
-fn is_properly_below(a: AbsSet, b: AbsSet) -> bool {
-    a.below(b) && !b.below(a) && a.join(b) == b && b.join(a) == b
+fn is_below(a: &AbsSet, b: &AbsSet) -> bool {
+    a.below(*b)
 }
 
-fn sets_hold() -> bool {
-    let two = abs_set(&[2], &[2]);
-    let two_or_none = abs_set(&[], &[2]);
-    let two_and_three = abs_set(&[2, 3], &[2, 3]);
-    two.below(two)
-        && is_properly_below(two, two_or_none)
-        && is_properly_below(two_or_none, AbsSet::any())
-        && is_properly_below(two, abs_set(&[2], &[2, 3]))
-        && is_properly_below(two_and_three, abs_set(&[2], &[2, 3]))
-        && !two.below(two_and_three)
-        && !two_and_three.below(two)
-        && two.join(two_and_three) == abs_set(&[2], &[2, 3])
-        && abs_set(&[1], &[1]).join(two) == abs_set(&[], &[1, 2])
+fn is_set(a: &AbsSet, b: &AbsSet) -> bool {
+    a.must == b.must && a.may == b.may
+}
+
+fn joins(a: &AbsSet, b: &AbsSet, both: &AbsSet) -> bool {
+    let join = a.join(*b);
+    is_set(&join, both)
+}
+
+/// Whether `a` is below `b` and `b` isn't below `a`, so that `b` is the join.
+fn is_properly_below(a: &AbsSet, b: &AbsSet) -> bool {
+    is_below(a, b) && !is_below(b, a) && joins(a, b, b) && joins(b, a, b)
 }
 
 #[test]
 fn sets_pair_by_pair(rt: HostRuntime) {
-    assert!(rt; sets_hold());
+    let two = abs_set(&[2], &[2]);
+    let two_or_none = abs_set(&[], &[2]);
+    let two_and_three = abs_set(&[2, 3], &[2, 3]);
+    let perhaps_three = abs_set(&[2], &[2, 3]);
+    let any = AbsSet::any();
+    let ordered = is_below(&two, &two)
+        && is_properly_below(&two, &two_or_none)
+        && is_properly_below(&two_or_none, &any)
+        && is_properly_below(&two, &perhaps_three)
+        && is_properly_below(&two_and_three, &perhaps_three);
+    let apart = !is_below(&two, &two_and_three)
+        && !is_below(&two_and_three, &two)
+        && joins(&two, &two_and_three, &perhaps_three);
+    assert!(rt; ordered && apart);
 }
 
 /// The functions of these codes.

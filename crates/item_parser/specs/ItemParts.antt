@@ -1,5 +1,5 @@
 -- Parts of the rules of items, as code reads them.
-use Rattle.std.specs.Prelude.{[], ◌∷◌, None, if◌then◌else◌}
+use Rattle.std.specs.Prelude.{[], if◌then◌else◌}
 use Rattle.c_tree.specs.declared.tree.Storage.{Storage}
 use Rattle.c_tree.specs.declared.tree.Storage.TheVariants as st
 use Rattle.c_tree.specs.Shape as shape

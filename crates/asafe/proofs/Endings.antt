@@ -1,11 +1,12 @@
 -- What the command's ending says of the text, of the status and of what is printed.
-use Rattle.std.proofs.Common.{◌≡◌, ◌∙◌, ap, refl, sym, subst, ℕ, ◌<◌, ◌≤◌, ◌⊎◌, inl, inr, Bool, List, [], ◌∷◌, ◌++◌, length, Option, Some, None, Ok, Err, Result, string_bytes, arith}
+use Rattle.std.proofs.Common.{◌≡◌, ◌∙◌, ap, refl, sym, subst, ℕ, ◌<◌, ◌≤◌, ◌⊎◌, inl, inr, Bool, List, [], ◌∷◌, ◌++◌, length, Option, Some, None, Ok, Err, Result, string_bytes, unwrap_or, arith}
 use Rattle.base_core.specs.Contents.{Contents, text_of, Lacks}
 use Rattle.base_core.specs.Count.{Rose}
 use Rattle.base_core.specs.Limits.{most_bytes}
 use Rattle.base_core.specs.Taken.{appended}
 use Rattle.base_core.specs.declared.place.Place.{Place}
 use Rattle.base_core.specs.declared.token.Token.{Token}
+use Rattle.c_lexer.specs.FaultFile.{fault_file, file_named}
 use Rattle.c_lexer.specs.Lexis.{Gives, Lexis, lexis}
 use Rattle.c_lexer.specs.declared.fault.LexFault.{LexFault}
 use Rattle.c_lexer.specs.declared.fault.LexFault.TheVariants as lex
@@ -20,10 +21,10 @@ use Rattle.asafe.specs.declared.token_fault.TokenFault.TheVariants as token
 use Rattle.asafe.specs.Answers.{Ends, FileEnds, TableEnds, LaterEnds, UsageEnds, IsUnread, Says, TellsFault, TextEnds}
 use Rattle.asafe.specs.Ending.{ending_status, ending_text}
 use Rattle.asafe.specs.Ends.{IsUsageOrFault, IsYesOrFault, IsNotYetOrNoMemory, IsReadFaultOrFault, IsTooLargeOrFault, IsDecidedOrFault}
-use Rattle.asafe.specs.FaultLine.{IsFaultLine, IsKind, fault_line, kind_of, place_of, token_fault_kind, token_fault_line}
+use Rattle.asafe.specs.FaultLine.{IsFaultLine, IsKind, fault_line, kind_of, place_of, place_at, token_fault_kind, token_fault_line}
 use Rattle.asafe.specs.Lines.{report, table_text, usage_line}
 use Rattle.asafe.specs.Printing.{CertifyPrints, IsPrintedOf, JobPrints, LaterPrints, Prints, PutsLine, PutsPart, TablePrints, UsagePrints}
-use Rattle.asafe.specs.Text.{HasFault, HasTokens, IsInSubset, IsShort, IsSmall, IsTooLarge, PassesLimits}
+use Rattle.asafe.specs.Text.{HasFault, HasTokens, IsInSubset, IsTokenFault, IsShort, IsSmall, IsTooLarge, PassesLimits}
 use Rattle.asafe.specs.Words.{Certifies, HasText, IsLater, LacksFile, certified}
 use Rattle.asafe.proofs.Texts.{tokens_only, all_fit, none_passes}
 
@@ -48,6 +49,26 @@ first_fault (lex.OpenLiteral p) place read at gives = gives
 first_fault (lex.NumberTooLarge p) place read at gives = gives
 first_fault (lex.Directive p) place read at gives = gives
 first_fault lex.NoMemory place read at gives = let clash : ◌≡◌ {A = Option Place} None (Some place) = at in absurd cc
+
+pub fault_told : (file text line : List ℕ) (fault : LexFault) (place : Place) → Some place ≡ place_of fault → Gives (Err fault) (lexis text)
+    → line ≡ fault_line file text place (kind_of fault) → IsFaultLine line × TellsFault file text line
+fault_told file text line fault place at gives is = (
+  record { file = unwrap_or (fault_file text) file; place = place; kind = kind_of fault; known = known fault place (sym at); is = is },
+  inl (record { fault = fault; first = first_fault fault place (lexis text) (sym at) gives; place = place; at = sym at; line_is = is }),
+)
+
+pub token_fault_told : (file text line : List ℕ) (fault : TokenFault) (read : Lexis) (k : ℕ) → lexis text ≡ Ok read → IsTokenFault fault read.tokens k
+    → line ≡ token_fault_line file fault read k → IsFaultLine line × TellsFault file text line
+token_fault_told file text line fault read k lexed cause is = (
+  record {
+    file = unwrap_or (file_named read.files (place_at read k).file) file;
+    place = place_at read k;
+    kind = token_fault_kind fault;
+    known = known_token fault;
+    is = is;
+  },
+  inr (record { fault = fault; read = read; token = k; has = record { lexed = lexed; cause = cause }; line_is = is }),
+)
 
 -- ---- texts in the subset
 
@@ -125,19 +146,19 @@ says_file file text json contents b a ending.NotYet ends held = ends text held
 same_some : (p q : List ℕ × Bool) → ◌≡◌ {A = Option (List ℕ × Bool)} (Some p) (Some q) → p ≡ q
 same_some p q same = cc
 
-not_some : {A : Type 0} (p : List ℕ × Bool) → ◌≡◌ {A = Option (List ℕ × Bool)} None (Some p) → ⊥
+not_some : (p : List ℕ × Bool) → ◌≡◌ {A = Option (List ℕ × Bool)} None (Some p) → ⊥
 not_some p same = cc
 
 pub ends_file : (job : Option Asked) (file : List ℕ) (json : Bool) (contents : Contents) (b a : ℕ) (e : Ending) → certified job ≡ Some (file, json) → Ends job contents b a e
     → FileEnds file json contents b a e
-ends_file None file json contents b a e asks ends = absurd (not_some {A = ⊥} (file, json) asks)
+ends_file None file json contents b a e asks ends = absurd (not_some (file, json) asks)
 ends_file (Some (certify f rules depth None j)) file json contents b a e asks ends =
     subst (λ (p : List ℕ × Bool). FileEnds p.0 p.1 contents b a e) (same_some (f, j) (file, json) asks) ends
-ends_file (Some (certify f rules depth (Some out) j)) file json contents b a e asks ends = absurd (not_some {A = ⊥} (file, json) asks)
-ends_file (Some (check f certificate rules)) file json contents b a e asks ends = absurd (not_some {A = ⊥} (file, json) asks)
-ends_file (Some (show f)) file json contents b a e asks ends = absurd (not_some {A = ⊥} (file, json) asks)
-ends_file (Some table) file json contents b a e asks ends = absurd (not_some {A = ⊥} (file, json) asks)
-ends_file (Some (generate n)) file json contents b a e asks ends = absurd (not_some {A = ⊥} (file, json) asks)
+ends_file (Some (certify f rules depth (Some out) j)) file json contents b a e asks ends = absurd (not_some (file, json) asks)
+ends_file (Some (check f certificate rules)) file json contents b a e asks ends = absurd (not_some (file, json) asks)
+ends_file (Some (show f)) file json contents b a e asks ends = absurd (not_some (file, json) asks)
+ends_file (Some table) file json contents b a e asks ends = absurd (not_some (file, json) asks)
+ends_file (Some (generate n)) file json contents b a e asks ends = absurd (not_some (file, json) asks)
 
 pub says : (job : Option Asked) (contents : Contents) (b a : ℕ) (e : Ending) (text : List ℕ) → Ends job contents b a e → HasText job contents text → Says text (ending_status e)
 says job contents b a e text ends has =

@@ -195,7 +195,7 @@ table_line (ending.TooLarge line) ends is = absurd ends
 table_line ending.NotYet ends is = absurd ends
 
 pub list_text : (job : Option Asked) (contents : Contents) (b a : ℕ) (e : Ending) → job ≡ Some table → Ends job contents b a e → ending_status e ≡ Yes → ending_text e ≡ table_text
-list_text job contents b a e is ends yes = table_line e (subst (λ (j : Option Asked). Ends j contents b a e) is ends) yes
+list_text job contents b a e is ends done = table_line e (subst (λ (j : Option Asked). Ends j contents b a e) is ends) done
 
 later_status : (e : Ending) → LaterEnds e → IsNotYetOrNoMemory (ending_status e) × (ending_text e ≡ [])
 later_status (ending.Accepted as_json) ends = absurd ends
@@ -244,15 +244,15 @@ NoUsage ending.Usage = ⊥
 NoUsage e = Unit {0}
 
 not_usage : (e : Ending) → NoUsage e → ending_status e ≡ Usage → ⊥
-not_usage (ending.Accepted as_json) no is = cc
-not_usage ending.Refused no is = cc
-not_usage (ending.Listed list) no is = cc
-not_usage ending.Usage no is = no
-not_usage (ending.Faulty line) no is = cc
-not_usage (ending.Unread line) no is = cc
-not_usage ending.NoMemory no is = cc
-not_usage (ending.TooLarge line) no is = cc
-not_usage ending.NotYet no is = cc
+not_usage (ending.Accepted as_json) apart is = cc
+not_usage ending.Refused apart is = cc
+not_usage (ending.Listed list) apart is = cc
+not_usage ending.Usage apart is = apart
+not_usage (ending.Faulty line) apart is = cc
+not_usage (ending.Unread line) apart is = cc
+not_usage ending.NoMemory apart is = cc
+not_usage (ending.TooLarge line) apart is = cc
+not_usage ending.NotYet apart is = cc
 
 no_usage_file : (file : List ℕ) (json : Bool) (contents : Contents) (b a : ℕ) (e : Ending) → FileEnds file json contents b a e → NoUsage e
 no_usage_file file json contents b a ending.Usage ends = ends

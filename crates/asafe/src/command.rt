@@ -3,7 +3,7 @@ ghost use Rattle.base_core.specs.Contents.{text_of, Lacks};
 ghost use Rattle.base_core.specs.Count.{Rose};
 ghost use Rattle.base_core.specs.Limits.{most_bytes};
 ghost use Rattle.base_core.specs.Taken.{appended};
-ghost use Rattle.c_lexer.specs.Lexis.{lexis};
+ghost use Rattle.c_lexer.specs.Lexis.{Gives, lexis};
 ghost use Rattle.command_words.specs.Jobs.{Asked, asked_by, table};
 ghost use Rattle.command_words.specs.Words.{asked};
 ghost use Rattle.asafe.specs.Lines.{usage_line, report, table_text, cannot_read_line, too_large_line};

@@ -1,0 +1,6 @@
+use Rattle.std.proofs.Common.{string_bytes}
+use Rattle.asafe.proofs.Endings.{fault_told}
+use Rattle.asafe.proofs.command.fault_ending.Goals as goal
+
+pub returns-in-Ok : goal.returns-in-Ok
+returns-in-Ok c = λ json gives. fault_told c.args.file.now c.args.text.now (string_bytes c.in-Ok.line) c.args.fault c.in-Some.place c.in-Some.ensures gives c.in-Ok.ensures

@@ -1,0 +1,6 @@
+use Rattle.std.proofs.Common.{string_bytes}
+use Rattle.asafe.proofs.Endings.{token_fault_told}
+use Rattle.asafe.proofs.command.tokens_ending.Goals as goal
+
+pub returns-in-Ok-token_fault_line : goal.returns-in-Ok-token_fault_line
+returns-in-Ok-token_fault_line c = λ text lexed. ?

@@ -1,0 +1,71 @@
+ghost use Rattle.std.specs.Prelude.{◌≡◌, ℕ, [], ◌∷◌, length, slice_get, false, not, ◌||◌, OnOk, OnErr, IfOk};
+ghost use Rattle.std.specs.Bool.{OnFalse};
+ghost use Rattle.std.specs.List.Sorted.{IsStrictlySortedBy};
+ghost use Rattle.fact_values.specs.Objects.{target_cmp, has_target, is_empty};
+
+use crate::Target;
+use base_core::NoMemory;
+use std::alloc::Global;
+use std::marker::Model;
+
+/// Targets in their order. A contract sees the list.
+#[derive(Drop)]
+pub(crate) struct TargetSet {
+    items: Vec<Target>,
+}
+
+impl Model for TargetSet {
+    ghost use Rattle.std.specs.Prelude.{List};
+    ghost use Rattle.std.specs.List.Sorted.{IsStrictlySortedBy};
+    ghost use Rattle.fact_values.specs.declared.object.Target.{Target};
+    ghost use Rattle.fact_values.specs.Objects.{target_cmp};
+
+    ghost Value = { List Target };
+
+    ghost view = { λ s. s.items.items };
+
+    ghost invariant = { λ s. IsStrictlySortedBy target_cmp s.items.items };
+}
+
+impl TargetSet {
+    /// No targets.
+    pub(crate) fn new(alloc: Global) -> TargetSet
+        ensures { result ≡ [] }
+    {
+        TargetSet {
+            items: Vec::new(alloc),
+        }
+    }
+
+    /// The k-th target, from 0; None exactly from their number on.
+    pub(crate) fn at(&self, k: usize) -> Option<Target>
+        ensures { result ≡ slice_get self.now k }
+    {
+        self.items.get(k).copied()
+    }
+
+    /// Whether it is one of these targets.
+    pub(crate) fn has(&self, target: Target) -> bool
+        ensures { result ≡ has_target self.now target }
+    {
+        self.items.binary_search(&target).is_ok()
+    }
+
+    /// Takes the target in; true exactly where it was none of these. Without memory all stays.
+    pub(crate) fn insert(&mut self, target: Target) -> Result<bool, NoMemory>
+        ensures has { OnOk result ((t : Target) → has_target self.new t ≡ (has_target (target ∷ []) t || has_target self.old t)) }
+        ensures grew { IfOk result (λ grew. grew ≡ not (has_target self.old target)) }
+        ensures same { IfOk result (λ grew. OnFalse grew (self.new ≡ self.old)) }
+        ensures sorted { OnOk result (IsStrictlySortedBy target_cmp self.new) }
+        ensures some { OnOk result (is_empty self.new ≡ false) }
+        ensures err { OnErr result (self.new ≡ self.old) }
+    {
+        match self.items.binary_search(&target) {
+            Ok(_) => Ok(false),
+            Err(place) => match self.items.insert(place, target) {
+                Ok(()) => Ok(true),
+                Err(_) => Err(NoMemory),
+            },
+        }
+    }
+}

@@ -1,0 +1,9 @@
+pub mod Places
+pub mod Numbers
+pub mod Sets
+pub mod Codes
+pub mod Functions
+pub mod Keys
+pub mod Values
+pub mod Entries
+pub mod States

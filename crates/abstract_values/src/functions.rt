@@ -1,0 +1,186 @@
+ghost use Rattle.std.specs.Prelude.{◌≡◌, ◌↔◌, ℕ, ◌+◌, ◌^◌, ◌<◌, ◌≤◌, List, [], ◌∷◌, drop, length, slice_get, OnOk, OnErr, IfOk, IfSome, IsTrue, not, nat_lt};
+ghost use Rattle.std.specs.Bool.{OnFalse};
+ghost use Rattle.abstract_values.specs.Places.{leading};
+ghost use Rattle.abstract_values.specs.Codes.{AreCodes, has_code, with_code, codes_join, CodesUnder};
+ghost use Rattle.abstract_values.specs.Functions.{FnsUnder, fns_join, is_any_fns, HasCodes};
+
+use base_core::NoMemory;
+use std::alloc::Global;
+use std::marker::Model;
+
+/// Codes of what a function pointer may be: 0 for null (as a disposition `SIG_DFL`), 1 for `SIG_IGN`, and n + 2 for
+/// the function n. A contract sees the list of the codes, which strictly rise.
+#[derive(Drop)]
+pub struct FnList {
+    codes: Vec<u64>,
+}
+
+impl Model for FnList {
+    ghost use Rattle.std.specs.Prelude.{List, ℕ};
+    ghost use Rattle.abstract_values.specs.Codes.{AreCodes};
+
+    ghost Value = { List ℕ };
+
+    ghost view = { λ f. f.codes.items };
+
+    ghost invariant = { λ f. AreCodes 0 f.codes.items };
+}
+
+impl FnList {
+    /// No codes.
+    pub fn new(alloc: Global) -> FnList
+        ensures { result ≡ [] }
+    {
+        FnList {
+            codes: Vec::new(alloc),
+        }
+    }
+
+    /// The number of codes.
+    pub fn len(&self) -> usize
+        ensures len { result ≡ length self.now }
+        ensures codes { AreCodes 0 self.now }
+    {
+        self.codes.len()
+    }
+
+    /// The code at this place, counted from 0; None exactly from the number of codes on.
+    pub fn at(&self, k: usize) -> Option<u64>
+        ensures code { result ≡ slice_get self.now k }
+        ensures range { IfSome result (λ code. code < 2 ^ 32 + 2) }
+    {
+        self.codes.get(k).copied()
+    }
+
+    /// Puts the code into the list, true exactly where it was new; without memory the list stays as it was.
+    pub fn add(&mut self, code: u64) -> Result<bool, NoMemory>
+        requires { code < 2 ^ 32 + 2 }
+        ensures added { OnOk result (self.new ≡ with_code code self.old) }
+        ensures grew { IfOk result (λ grew. grew ≡ not (has_code self.old code)) }
+        ensures same { IfOk result (λ grew. OnFalse grew (self.new ≡ self.old)) }
+        ensures err { OnErr result (self.new ≡ self.old) }
+    {
+        let place = place_of(&self.codes, 0, code);
+        if place < self.codes.len() && self.codes[place] == code {
+            return Ok(false);
+        }
+        match self.codes.insert(place, code) {
+            Ok(()) => Ok(true),
+            Err(_) => Err(NoMemory),
+        }
+    }
+
+    /// An equal list.
+    pub(crate) fn copy(&self, alloc: Global) -> Result<FnList, NoMemory>
+        ensures { IfOk result (λ list. list ≡ self.now) }
+    {
+        match Vec::from_slice(alloc, &self.codes) {
+            Ok(codes) => Ok(FnList { codes }),
+            Err(_) => Err(NoMemory),
+        }
+    }
+
+    /// Whether each code is one of the other's.
+    pub(crate) fn below(&self, o: &FnList) -> bool
+        ensures { IsTrue result ↔ CodesUnder self.now o.now }
+    {
+        are_below(&self.codes, &o.codes)
+    }
+
+    /// The codes of both.
+    pub(crate) fn join(&self, alloc: Global, o: &FnList) -> Result<FnList, NoMemory>
+        ensures { IfOk result (λ list. list ≡ codes_join self.now o.now) }
+    {
+        let mut all = self.copy(alloc)?;
+        for &code in &o.codes {
+            all.add(code)?;
+        }
+        Ok(all)
+    }
+}
+
+/// The first place from `start` on where the code isn't below the given one.
+fn place_of(codes: &[u64], start: usize, code: u64) -> usize
+    requires { start ≤ length codes.now }
+    ensures place { result ≡ start + leading (λ c. nat_lt c code) (drop start codes.now) }
+    ensures within { result ≤ length codes.now }
+{
+    let mut place = start;
+    while place < codes.len() && codes[place] < code {
+        place += 1;
+    }
+    place
+}
+
+/// Whether each code is one of the others, where both rise.
+fn are_below(codes: &[u64], others: &[u64]) -> bool
+    requires codes { AreCodes 0 codes.now }
+    requires others { AreCodes 0 others.now }
+    ensures { IsTrue result ↔ CodesUnder codes.now others.now }
+{
+    let mut place = 0;
+    for &code in codes {
+        place = place_of(others, place, code);
+        if place == others.len() || others[place] != code {
+            return false;
+        }
+    }
+    true
+}
+
+/// What is known of a function pointer or of a signal's disposition.
+#[derive(Drop)]
+pub enum AbsFns {
+    /// Nothing is known.
+    Any,
+    /// It is one of these.
+    Among(FnList),
+}
+
+impl AbsFns {
+    /// Whether the other stands for all that this one stands for.
+    pub fn below(&self, o: &AbsFns) -> bool
+        ensures { IsTrue result ↔ FnsUnder self.now o.now }
+    {
+        match (self, o) {
+            (_, AbsFns::Any) => true,
+            (AbsFns::Among(codes), AbsFns::Among(others)) => codes.below(others),
+            (AbsFns::Any, AbsFns::Among(_)) => false,
+        }
+    }
+
+    /// An equal value.
+    pub fn copy(&self, alloc: Global) -> Result<AbsFns, NoMemory>
+        ensures { IfOk result (λ f. f ≡ self.now) }
+    {
+        match self {
+            AbsFns::Any => Ok(AbsFns::Any),
+            AbsFns::Among(codes) => Ok(AbsFns::Among(codes.copy(alloc)?)),
+        }
+    }
+
+    /// The least value above both.
+    pub(crate) fn join(&self, alloc: Global, o: &AbsFns) -> Result<AbsFns, NoMemory>
+        ensures { IfOk result (λ f. f ≡ fns_join self.now o.now) }
+    {
+        match (self, o) {
+            (AbsFns::Among(codes), AbsFns::Among(others)) => Ok(AbsFns::Among(codes.join(
+                alloc, others,
+            )?)),
+            _ => Ok(AbsFns::Any),
+        }
+    }
+
+    pub(crate) fn is_any(&self) -> bool
+        ensures any { result ≡ is_any_fns self.now }
+        ensures codes { HasCodes self.now }
+    {
+        match self {
+            AbsFns::Any => true,
+            AbsFns::Among(codes) => {
+                let _ = codes.len();
+                false
+            }
+        }
+    }
+}

@@ -23,6 +23,7 @@ use Rattle.call_ctx.specs.declared.sites.Sites.{Sites}
 use Rattle.call_ctx.specs.declared.sites.Sites.TheVariants.{Empty, One, Two}
 use Rattle.call_ctx.specs.contracts.cell.CellOrd.TheImpl.Laws as cell
 use Rattle.call_ctx.specs.contracts.context.CtxOrd.TheImpl.Laws as ctx
+use Rattle.call_ctx.specs.contracts.context.RoleOrd.TheImpl.Laws as role_laws
 use Rattle.call_ctx.specs.Sites.{sites_of}
 use Rattle.call_ctx.specs.Order.{phase_number, role_number, side_number, bool_number, marks_number, ctx_numbers, cell_numbers, node_cmp, phase_cmp, pos_cmp, role_cmp, side_cmp, sites_cmp, ctx_cmp, cell_cmp}
 
@@ -79,6 +80,9 @@ pub exact_cell : CmpEqualImpliesEq cell_cmp
 exact_cell a b e =
     ap (λ (p : Pos × (Ctx × Side)). record { pos = p.0; ctx = p.1.0; side = p.1.1 })
     (exact_pairs pos_cmp _ exact_pos (exact_pairs ctx_cmp side_cmp exact_ctx exact_side) (a.pos, (a.ctx, a.side)) (b.pos, (b.ctx, b.side)) e)
+
+pub role_total : IsTotalOrder role_cmp
+role_total = role_laws.total-law
 
 pub ctx_total : IsTotalOrder ctx_cmp
 ctx_total = ctx.total-law

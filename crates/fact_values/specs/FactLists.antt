@@ -1,5 +1,5 @@
 -- Facts as contracts see them: lists, each in the order of its keys.
-use Rattle.std.specs.Prelude.{ℕ, List}
+use Rattle.std.specs.Prelude.{ℕ, List, []}
 use Rattle.base_core.specs.declared.id.FnId.{FnId}
 use Rattle.call_ctx.specs.declared.context.Role.{Role}
 use Rattle.call_ctx.specs.declared.cell.Cell.{Cell}
@@ -23,3 +23,6 @@ pub record FactLists : Type 0 where
 -- what a contract sees of facts
 pub record FactsValue : Type 0 where
   pub lists : FactLists
+
+abbrev pub no_facts : ℕ → FactLists
+no_facts depth = record { depth = depth; cells = []; targets = []; installed = []; threads = []; forks = []; stirred = [] }

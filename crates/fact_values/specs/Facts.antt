@@ -3,6 +3,8 @@ use Rattle.std.specs.Prelude.{◌≡◌, ◌≢◌, ℕ, ◌≤◌, ◌↔◌, L
 use Rattle.std.specs.List.{list_any}
 use Rattle.std.specs.List.Sorted.{IsStrictlySortedBy}
 use Rattle.std.specs.Map.{lookup}
+use Rattle.std.specs.Option.{unwrap_or}
+use Rattle.std.specs.Bool.{OnFalse}
 use Rattle.std.specs.Ordering.{nat_cmp, ordering_then}
 use Rattle.std.specs.BTreeMap.{is_at}
 use Rattle.std.specs.declared.cmp.Ordering.{Ordering}
@@ -25,6 +27,7 @@ use Rattle.fact_values.specs.declared.part.Held.{Held}
 use Rattle.fact_values.specs.declared.part.Held.TheVariants as held
 use Rattle.fact_values.specs.declared.consequence.Consequence.{Consequence}
 use Rattle.fact_values.specs.Objects.{obj_cmp, holder_cmp, target_cmp, fn_cmp, has_target, is_empty, IsObjectWithin, IsHolderWithin, IsTargetWithin}
+use Rattle.fact_values.specs.declared.facts.Marks.{Marks}
 use Rattle.fact_values.specs.FactLists.{FactLists}
 
 -- the orders of the other keys
@@ -61,7 +64,8 @@ view f = record {
   installed_at = λ s g. lookup (is_at (handler_cmp (s, g))) f.installed;
   is_thread = λ g. list_any (is_at (fn_cmp g)) f.threads;
   is_fork = λ r g. list_any (is_at (fork_cmp (r, g))) f.forks;
-  is_stirred = λ o. list_any (is_at (obj_cmp o)) f.stirred }
+  is_stirred = λ o. list_any (is_at (obj_cmp o)) f.stirred;
+}
 
 -- the upper one says no more
 abbrev pub InstalledUnder : Installed → Installed → Type 0
@@ -85,7 +89,7 @@ Fits _ _ = ⊥
 abbrev pub IsPartWithin : ℕ → Part → Type 0
 IsPartWithin depth (part.Cell c) = IsWithin depth c.ctx
 IsPartWithin depth (part.Target h t) = IsHolderWithin depth h × IsTargetWithin depth t
-IsPartWithin depth (part.Installed s g) = Unit {0}
+IsPartWithin depth (part.Installed s g) = (1 ≤ s) × (s ≤ 28)
 IsPartWithin depth (part.Thread g) = Unit {0}
 IsPartWithin depth (part.Fork r g) = r ≢ NoRole
 IsPartWithin depth (part.Stirred o) = IsObjectWithin depth o
@@ -138,6 +142,13 @@ pub record IsLeastWith (f : View) (q : Consequence) (g : View) : Type 0 where
   pub above : Below f g
   pub least : (h : View) → Below f h → Holds h q → Below g h
 
+-- what `add` does: the new facts are the least, and they grew exactly where the old ones didn't hold it
+pub record Adds (q : Consequence) (answer : Bool) (old new : FactLists) : Type 0 where
+  pub depth : new.depth ≡ old.depth
+  pub least : IsLeastWith (view old) q (view new)
+  pub grew : IsTrue answer ↔ (Holds (view old) q → ⊥)
+  pub same : OnFalse answer (new ≡ old)
+
 -- the least facts above f that hold each of some consequences
 pub record IsLeastWithAll (f : View) (list : List Consequence) (g : View) : Type 0 where
   pub holds : (q : Consequence) → Contains list q → Holds g q
@@ -156,6 +167,18 @@ pub record IsInBounds (f : View) : Type 0 where
 pub record HasTargets (f : FactLists) : Type 0 where
   pub some : (h : Holder) → IfSome (lookup (is_at (holder_cmp h)) f.targets) (λ targets. is_empty targets ≡ false)
   pub sorted : (h : Holder) → IfSome (lookup (is_at (holder_cmp h)) f.targets) (IsStrictlySortedBy target_cmp)
+
+-- what every value of the type `Facts` is
+pub record AreFacts (f : FactLists) : Type 0 where
+  pub bounds : IsInBounds (view f)
+  pub targets : HasTargets f
+
+-- the k-th target of a holder, and whether it has one
+abbrev pub targets_at : FactLists → Holder → List Target
+targets_at f h = unwrap_or (lookup (is_at (holder_cmp h)) f.targets) []
+
+abbrev pub marks_of : State → Marks
+marks_of s = record { mask = s.mask; errno = s.errno; alone = s.alone; bare = s.bare }
 
 -- what was appended is exactly what P holds of
 pub record Appends (P : Consequence → Type 0) (old new : List Consequence) : Type 0 where

@@ -26,6 +26,11 @@ impl Model for Consequences {
 
     ghost Value = { List Consequence };
 
+    ghost use Rattle.sig_set.specs.contracts.SigSet as signals;
+    ghost use Rattle.std.specs.Coded.{codes};
+
+    ghost coded = { Prim.hlevel (codes, signals.the_row.coded) };
+
     ghost view = { λ s. s.items.items };
 }
 

@@ -1,10 +1,5 @@
-ghost use Rattle.std.specs.Prelude.{◌≡◌, ◌↔◌, ℕ, ◌≤◌, List, [], map, length, slice_get, true, false, OnOk, OnErr, IfOk, IsTrue};
-ghost use Rattle.std.specs.Bool.{OnFalse};
-ghost use Rattle.std.specs.Option.{option_map, MatchOption};
-ghost use Rattle.std.specs.List.Sorted.{IsStrictlySortedBy};
-ghost use Rattle.call_ctx.specs.Order.{cell_cmp};
-ghost use Rattle.fact_values.specs.Objects.{holder_cmp, obj_cmp, fn_cmp};
-ghost use Rattle.fact_values.specs.Facts.{View, view, handler_cmp, fork_cmp, consequence, marks_of, targets_at, IsInBounds, HasTargets, IsFit, Holds, IsLeastWith};
+ghost use Rattle.std.specs.Prelude.{◌≡◌, ◌≤◌};
+ghost use Rattle.fact_values.specs.Facts.{view, IsInBounds, HasTargets};
 ghost use Rattle.fact_values.specs.FactLists.{no_facts};
 
 mod adds;
@@ -12,9 +7,9 @@ mod lists;
 mod reads;
 
 use crate::target_set::TargetSet;
-use crate::{Held, Holder, Installed, Obj, Part, Target};
+use crate::{Holder, Installed, Obj};
 use abstract_values::{AbsInt, AbsSet, State};
-use base_core::{FnId, NoMemory, Sig};
+use base_core::{FnId, Sig};
 use call_ctx::{Cell, Role};
 use std::alloc::Global;
 use std::collections::{BTreeMap, BTreeSet};
@@ -41,15 +36,22 @@ impl Model for Facts {
 
     ghost Value = { FactsValue };
 
-    ghost view = { λ a. record { lists = record {
-      depth = a.depth;
-      cells = a.cells.entries;
-      targets = a.targets.entries;
-      installed = a.installed.entries;
-      threads = a.threads.keys;
-      forks = a.forks.keys;
-      stirred = a.stirred.keys;
-    } } };
+    ghost use Rattle.sig_set.specs.contracts.SigSet as signals;
+    ghost use Rattle.std.specs.Coded.{codes};
+
+    ghost coded = { Prim.hlevel (codes, signals.the_row.coded) };
+
+    ghost view = { λ a. record {
+      lists = record {
+        depth = a.depth;
+        cells = a.cells.entries;
+        targets = a.targets.entries;
+        installed = a.installed.entries;
+        threads = a.threads.keys;
+        forks = a.forks.keys;
+        stirred = a.stirred.keys;
+      };
+    } };
 
     ghost invariant = { λ a. AreFacts (record {
       depth = a.depth;
@@ -69,4 +71,33 @@ pub struct Marks {
     pub errno: AbsInt,
     pub alone: bool,
     pub bare: bool,
+}
+
+impl Facts {
+    /// No facts, of contexts that keep so many call sites.
+    pub fn new(alloc: Global, depth: u8) -> Facts
+        requires some { 1 ≤ depth }
+        requires most { depth ≤ 2 }
+        ensures { result.lists ≡ no_facts depth }
+    {
+        Facts {
+            alloc,
+            depth,
+            cells: BTreeMap::new(alloc),
+            targets: BTreeMap::new(alloc),
+            installed: BTreeMap::new(alloc),
+            threads: BTreeSet::new(alloc),
+            forks: BTreeSet::new(alloc),
+            stirred: BTreeSet::new(alloc),
+        }
+    }
+
+    /// How many call sites contexts keep: one or two.
+    pub fn depth(&self) -> u8
+        ensures depth { result ≡ self.now.lists.depth }
+        ensures bounds { IsInBounds (view self.now.lists) }
+        ensures targets { HasTargets self.now.lists }
+    {
+        self.depth
+    }
 }

@@ -1,0 +1,123 @@
+ghost use Rattle.std.specs.Prelude.{◌≡◌, ◌↔◌, OnOk, OnErr, IfOk, IsTrue};
+ghost use Rattle.std.specs.Bool.{OnFalse};
+ghost use Rattle.fact_values.specs.Facts.{view, consequence, IsFit, Holds, Adds};
+
+use super::Facts;
+use crate::target_set::TargetSet;
+use crate::{Held, Holder, Installed, Obj, Part, Target};
+use abstract_values::State;
+use base_core::{FnId, NoMemory, Sig};
+use call_ctx::{Cell, Role};
+
+impl Facts {
+    fn add_state(&mut self, cell: Cell, state: &State) -> Result<bool, NoMemory>
+        requires { IsFit self.old.lists.depth (consequence (Part.Cell cell) (Held.State state.now)) }
+        ensures adds { IfOk result (λ grew. Adds (consequence (Part.Cell cell) (Held.State state.now)) grew self.old.lists self.new.lists) }
+        ensures err { OnErr result (self.new.lists ≡ self.old.lists) }
+    {
+        let alloc = self.alloc;
+        if let Some(held) = self.cells.get_mut(&cell) {
+            return held.join(state);
+        }
+        let copy = state.copy(alloc)?;
+        match self.cells.insert(cell, copy) {
+            Ok(_) => Ok(true),
+            Err(_) => Err(NoMemory),
+        }
+    }
+
+    fn add_target(&mut self, holder: Holder, target: Target) -> Result<bool, NoMemory>
+        requires { IsFit self.old.lists.depth (consequence (Part.Target holder target) Held.Nothing) }
+        ensures adds { IfOk result (λ grew. Adds (consequence (Part.Target holder target) Held.Nothing) grew self.old.lists self.new.lists) }
+        ensures err { OnErr result (self.new.lists ≡ self.old.lists) }
+    {
+        let alloc = self.alloc;
+        if let Some(held) = self.targets.get_mut(&holder) {
+            return held.insert(target);
+        }
+        let mut targets = TargetSet::new(alloc);
+        targets.insert(target)?;
+        match self.targets.insert(holder, targets) {
+            Ok(_) => Ok(true),
+            Err(_) => Err(NoMemory),
+        }
+    }
+
+    fn add_installed(
+        &mut self,
+        signal: Sig,
+        function: FnId,
+        installed: Installed,
+    ) -> Result<bool, NoMemory>
+        requires { IsFit self.old.lists.depth (consequence (Part.Installed signal function) (Held.Installed installed)) }
+        ensures adds { IfOk result (λ grew. Adds (consequence (Part.Installed signal function) (Held.Installed installed)) grew self.old.lists self.new.lists) }
+        ensures err { OnErr result (self.new.lists ≡ self.old.lists) }
+    {
+        let key = (signal, function);
+        let joined = match self.installed.get(&key) {
+            None => installed,
+            Some(held) => {
+                if installed.below(*held) {
+                    return Ok(false);
+                }
+                held.join(installed)
+            }
+        };
+        match self.installed.insert(key, joined) {
+            Ok(_) => Ok(true),
+            Err(_) => Err(NoMemory),
+        }
+    }
+
+    fn add_thread(&mut self, function: FnId) -> Result<bool, NoMemory>
+        requires { IsFit self.old.lists.depth (consequence (Part.Thread function) Held.Nothing) }
+        ensures adds { IfOk result (λ grew. Adds (consequence (Part.Thread function) Held.Nothing) grew self.old.lists self.new.lists) }
+        ensures err { OnErr result (self.new.lists ≡ self.old.lists) }
+    {
+        match self.threads.insert(function) {
+            Ok(grew) => Ok(grew),
+            Err(_) => Err(NoMemory),
+        }
+    }
+
+    fn add_fork(&mut self, role: Role, function: FnId) -> Result<bool, NoMemory>
+        requires { IsFit self.old.lists.depth (consequence (Part.Fork role function) Held.Nothing) }
+        ensures adds { IfOk result (λ grew. Adds (consequence (Part.Fork role function) Held.Nothing) grew self.old.lists self.new.lists) }
+        ensures err { OnErr result (self.new.lists ≡ self.old.lists) }
+    {
+        match self.forks.insert((role, function)) {
+            Ok(grew) => Ok(grew),
+            Err(_) => Err(NoMemory),
+        }
+    }
+
+    fn add_stirred(&mut self, object: Obj) -> Result<bool, NoMemory>
+        requires { IsFit self.old.lists.depth (consequence (Part.Stirred object) Held.Nothing) }
+        ensures adds { IfOk result (λ grew. Adds (consequence (Part.Stirred object) Held.Nothing) grew self.old.lists self.new.lists) }
+        ensures err { OnErr result (self.new.lists ≡ self.old.lists) }
+    {
+        match self.stirred.insert(object) {
+            Ok(grew) => Ok(grew),
+            Err(_) => Err(NoMemory),
+        }
+    }
+
+    /// Become the least facts that hold it as well; true exactly where they grew. Without memory they stay.
+    pub fn add(&mut self, p: &Part, h: &Held) -> Result<bool, NoMemory>
+        requires { IsFit self.old.lists.depth (consequence p.now h.now) }
+        ensures adds { IfOk result (λ grew. Adds (consequence p.now h.now) grew self.old.lists self.new.lists) }
+        ensures err { OnErr result (self.new.lists ≡ self.old.lists) }
+    {
+        match (p, h) {
+            (Part::Cell(cell), Held::State(state)) => self.add_state(*cell, state),
+            (Part::Target(holder, target), Held::Nothing) => self.add_target(*holder, *target),
+            (Part::Installed(signal, function), Held::Installed(installed)) => {
+                self.add_installed(*signal, *function, *installed)
+            }
+            (Part::Thread(function), Held::Nothing) => self.add_thread(*function),
+            (Part::Fork(role, function), Held::Nothing) => self.add_fork(*role, *function),
+            (Part::Stirred(object), Held::Nothing) => self.add_stirred(*object),
+            _ => Ok(false),
+        }
+    }
+}

@@ -18,7 +18,7 @@ module _ {K : Type 0} {R : K → K → Ordering} (o : IsTotalOrder R) where
   pub searchable : (xs : List K) (x : K) → IsStrictlySortedBy R xs → IsNonDecreasingBy (λ y. ordering_index (R y x)) xs
   searchable xs x sorted = searchable_from_sorted o (λ y. y) xs x
       (λ k d low below. let less = Less-from_sorted R xs k (k + 1) d sorted (omega arith) below in
-        let back = o.antisymm (get_or xs (k + 1) d) (get_or xs k d) in greater _ _ less back)
+      let back = o.antisymm (get_or xs (k + 1) d) (get_or xs k d) in greater _ _ less back)
     where
       greater : (p q : Ordering) → q ≡ Less → p ≡ ordering_reverse q → is_lt p ≡ false
       greater p q h e = ap (λ r. is_lt r) (e ∙ ap ordering_reverse h)
@@ -37,16 +37,17 @@ module _ {K : Type 0} {R : K → K → Ordering} (o : IsTotalOrder R) where
   all_insert P (y ∷ ys) (suc i) x p h = (h.0, all_insert P ys i x p h.1)
 
   pub sorted_insert : (xs : List K) (i : ℕ) (x : K) → i ≤ length xs → IsStrictlySortedBy R xs
-    → AllWithin (λ y. R y x ≡ Less) xs 0 i → AllWithin (λ y. R y x ≡ Greater) xs i (length xs) → IsStrictlySortedBy R (insert xs i x)
+      → AllWithin (λ y. R y x ≡ Less) xs 0 i → AllWithin (λ y. R y x ≡ Greater) xs i (length xs) → IsStrictlySortedBy R (insert xs i x)
   unfolding IsStrictlySortedBy
   sorted_insert [] zero x within sorted low high = (tt, tt)
   sorted_insert [] (suc i) x within sorted low high = (tt, tt)
   sorted_insert (y ∷ ys) zero x within sorted low high = (all_above x (y ∷ ys) high, sorted)
-  sorted_insert (y ∷ ys) (suc i) x within sorted low high =
-      (all_insert (λ z. R y z ≡ Less) ys i x (low 0 y (omega arith) (omega arith)) sorted.0,
-       sorted_insert ys i x (omega (arith, within)) sorted.1
-         (λ k d h below. low (suc k) d (omega arith) (omega (arith, below)))
-         (λ k d h below. high (suc k) d (omega (arith, h)) (omega (arith, below))))
+  sorted_insert (y ∷ ys) (suc i) x within sorted low high = (
+    all_insert (λ z. R y z ≡ Less) ys i x (low 0 y (omega arith) (omega arith)) sorted.0,
+    sorted_insert ys i x (omega (arith, within)) sorted.1
+        (λ k d h below. low (suc k) d (omega arith) (omega (arith, below)))
+        (λ k d h below. high (suc k) d (omega (arith, h)) (omega (arith, below))),
+  )
 
   -- a key that is neither before nor behind the place isn't there
   pub absent : (xs : List K) (i : ℕ) (x : K) → AllWithin (λ y. R y x ≡ Less) xs 0 i → AllWithin (λ y. R y x ≡ Greater) xs i (length xs) → list_any (is_at (R x)) xs ≡ false

@@ -1,4 +1,4 @@
-ghost use Rattle.std.specs.Prelude.{◌≡◌, ℕ, [], ◌∷◌, length, slice_get, false, not, ◌||◌, OnOk, OnErr, IfOk};
+ghost use Rattle.std.specs.Prelude.{◌≡◌, [], ◌∷◌, slice_get, true, false, not, ◌||◌, OnOk, OnErr, IfOk};
 ghost use Rattle.std.specs.Bool.{OnFalse};
 ghost use Rattle.std.specs.List.Sorted.{IsStrictlySortedBy};
 ghost use Rattle.fact_values.specs.Objects.{target_cmp, has_target, is_empty};
@@ -28,15 +28,6 @@ impl Model for TargetSet {
 }
 
 impl TargetSet {
-    /// No targets.
-    pub(crate) fn new(alloc: Global) -> TargetSet
-        ensures { result ≡ [] }
-    {
-        TargetSet {
-            items: Vec::new(alloc),
-        }
-    }
-
     /// The k-th target, from 0; None exactly from their number on.
     pub(crate) fn at(&self, k: usize) -> Option<Target>
         ensures { result ≡ slice_get self.now k }
@@ -56,16 +47,30 @@ impl TargetSet {
         ensures has { OnOk result ((t : Target) → has_target self.new t ≡ (has_target (target ∷ []) t || has_target self.old t)) }
         ensures grew { IfOk result (λ grew. grew ≡ not (has_target self.old target)) }
         ensures same { IfOk result (λ grew. OnFalse grew (self.new ≡ self.old)) }
-        ensures sorted { OnOk result (IsStrictlySortedBy target_cmp self.new) }
-        ensures some { OnOk result (is_empty self.new ≡ false) }
+        ensures within { (t : Target) → has_target self.new t ≡ true → (has_target (target ∷ []) t || has_target self.old t) ≡ true }
+        ensures sorted { IsStrictlySortedBy target_cmp self.new }
+        ensures some { is_empty self.old ≡ false → is_empty self.new ≡ false }
         ensures err { OnErr result (self.new ≡ self.old) }
     {
         match self.items.binary_search(&target) {
             Ok(_) => Ok(false),
-            Err(place) => match self.items.insert(place, target) {
-                Ok(()) => Ok(true),
-                Err(_) => Err(NoMemory),
-            },
+            Err(place) => {
+                let Ok(()) = self.items.insert(place, target) else {
+                    return Err(NoMemory);
+                };
+                Ok(true)
+            }
         }
+    }
+
+    /// One target.
+    pub(crate) fn of(alloc: Global, target: Target) -> Result<TargetSet, NoMemory>
+        ensures { IfOk result (λ targets. targets ≡ target ∷ []) }
+    {
+        let mut items = Vec::new(alloc);
+        let Ok(()) = items.push(target) else {
+            return Err(NoMemory);
+        };
+        Ok(TargetSet { items })
     }
 }

@@ -1,6 +1,6 @@
-ghost use Rattle.std.specs.Prelude.{◌≡◌, ◌↔◌, OnOk, OnErr, IfOk, IsTrue};
-ghost use Rattle.std.specs.Bool.{OnFalse};
-ghost use Rattle.fact_values.specs.Facts.{view, consequence, IsFit, Holds, Adds};
+ghost use Rattle.std.specs.Prelude.{◌≡◌, OnErr, IfOk};
+ghost use Rattle.abstract_values.specs.States.{IsJoin, IsWellFormed};
+ghost use Rattle.fact_values.specs.Facts.{consequence, IsFit, Adds};
 
 use super::Facts;
 use crate::target_set::TargetSet;
@@ -8,6 +8,17 @@ use crate::{Held, Holder, Installed, Obj, Part, Target};
 use abstract_values::State;
 use base_core::{FnId, NoMemory, Sig};
 use call_ctx::{Cell, Role};
+use std::alloc::Global;
+
+/// The least state above both.
+fn join_of(alloc: Global, held: &State, state: &State) -> Result<State, NoMemory>
+    ensures join { IfOk result (IsJoin held.now state.now) }
+    ensures formed { IfOk result (λ joined. IsWellFormed held.now → IsWellFormed state.now → IsWellFormed joined) }
+{
+    let mut joined = held.copy(alloc)?;
+    joined.join(state)?;
+    Ok(joined)
+}
 
 impl Facts {
     fn add_state(&mut self, cell: Cell, state: &State) -> Result<bool, NoMemory>
@@ -16,14 +27,19 @@ impl Facts {
         ensures err { OnErr result (self.new.lists ≡ self.old.lists) }
     {
         let alloc = self.alloc;
-        if let Some(held) = self.cells.get_mut(&cell) {
-            return held.join(state);
-        }
-        let copy = state.copy(alloc)?;
-        match self.cells.insert(cell, copy) {
-            Ok(_) => Ok(true),
-            Err(_) => Err(NoMemory),
-        }
+        let joined = match self.cells.get(&cell) {
+            None => state.copy(alloc)?,
+            Some(held) => {
+                if state.below(held) {
+                    return Ok(false);
+                }
+                join_of(alloc, held, state)?
+            }
+        };
+        let Ok(_) = self.cells.insert(cell, joined) else {
+            return Err(NoMemory);
+        };
+        Ok(true)
     }
 
     fn add_target(&mut self, holder: Holder, target: Target) -> Result<bool, NoMemory>
@@ -35,12 +51,11 @@ impl Facts {
         if let Some(held) = self.targets.get_mut(&holder) {
             return held.insert(target);
         }
-        let mut targets = TargetSet::new(alloc);
-        targets.insert(target)?;
-        match self.targets.insert(holder, targets) {
-            Ok(_) => Ok(true),
-            Err(_) => Err(NoMemory),
-        }
+        let targets = TargetSet::of(alloc, target)?;
+        let Ok(_) = self.targets.insert(holder, targets) else {
+            return Err(NoMemory);
+        };
+        Ok(true)
     }
 
     fn add_installed(
@@ -54,19 +69,20 @@ impl Facts {
         ensures err { OnErr result (self.new.lists ≡ self.old.lists) }
     {
         let key = (signal, function);
-        let joined = match self.installed.get(&key) {
+        let held = self.installed.get(&key).copied();
+        let joined = match held {
             None => installed,
             Some(held) => {
-                if installed.below(*held) {
+                if installed.below(held) {
                     return Ok(false);
                 }
                 held.join(installed)
             }
         };
-        match self.installed.insert(key, joined) {
-            Ok(_) => Ok(true),
-            Err(_) => Err(NoMemory),
-        }
+        let Ok(_) = self.installed.insert(key, joined) else {
+            return Err(NoMemory);
+        };
+        Ok(true)
     }
 
     fn add_thread(&mut self, function: FnId) -> Result<bool, NoMemory>
@@ -74,10 +90,10 @@ impl Facts {
         ensures adds { IfOk result (λ grew. Adds (consequence (Part.Thread function) Held.Nothing) grew self.old.lists self.new.lists) }
         ensures err { OnErr result (self.new.lists ≡ self.old.lists) }
     {
-        match self.threads.insert(function) {
-            Ok(grew) => Ok(grew),
-            Err(_) => Err(NoMemory),
-        }
+        let Ok(grew) = self.threads.insert(function) else {
+            return Err(NoMemory);
+        };
+        Ok(grew)
     }
 
     fn add_fork(&mut self, role: Role, function: FnId) -> Result<bool, NoMemory>
@@ -85,10 +101,10 @@ impl Facts {
         ensures adds { IfOk result (λ grew. Adds (consequence (Part.Fork role function) Held.Nothing) grew self.old.lists self.new.lists) }
         ensures err { OnErr result (self.new.lists ≡ self.old.lists) }
     {
-        match self.forks.insert((role, function)) {
-            Ok(grew) => Ok(grew),
-            Err(_) => Err(NoMemory),
-        }
+        let Ok(grew) = self.forks.insert((role, function)) else {
+            return Err(NoMemory);
+        };
+        Ok(grew)
     }
 
     fn add_stirred(&mut self, object: Obj) -> Result<bool, NoMemory>
@@ -96,10 +112,10 @@ impl Facts {
         ensures adds { IfOk result (λ grew. Adds (consequence (Part.Stirred object) Held.Nothing) grew self.old.lists self.new.lists) }
         ensures err { OnErr result (self.new.lists ≡ self.old.lists) }
     {
-        match self.stirred.insert(object) {
-            Ok(grew) => Ok(grew),
-            Err(_) => Err(NoMemory),
-        }
+        let Ok(grew) = self.stirred.insert(object) else {
+            return Err(NoMemory);
+        };
+        Ok(grew)
     }
 
     /// Become the least facts that hold it as well; true exactly where they grew. Without memory they stay.

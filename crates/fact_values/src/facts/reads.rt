@@ -115,29 +115,65 @@ impl Facts {
         self.stirred.iter().nth(k).copied()
     }
 
+    fn holds_state(&self, cell: Cell, state: &State) -> bool
+        ensures { IsTrue result ↔ Holds (view self.now.lists) (consequence (Part.Cell cell) (Held.State state.now)) }
+    {
+        match self.cells.get(&cell) {
+            Some(held) => state.below(held),
+            None => false,
+        }
+    }
+
+    fn holds_target(&self, holder: Holder, target: Target) -> bool
+        ensures { IsTrue result ↔ Holds (view self.now.lists) (consequence (Part.Target holder target) Held.Nothing) }
+    {
+        match self.targets.get(&holder) {
+            Some(targets) => targets.has(target),
+            None => false,
+        }
+    }
+
+    fn holds_installed(&self, signal: Sig, function: FnId, installed: Installed) -> bool
+        ensures { IsTrue result ↔ Holds (view self.now.lists) (consequence (Part.Installed signal function) (Held.Installed installed)) }
+    {
+        match self.installed.get(&(signal, function)).copied() {
+            Some(held) => installed.below(held),
+            None => false,
+        }
+    }
+
+    fn holds_thread(&self, function: FnId) -> bool
+        ensures { IsTrue result ↔ Holds (view self.now.lists) (consequence (Part.Thread function) Held.Nothing) }
+    {
+        self.threads.contains(&function)
+    }
+
+    fn holds_fork(&self, role: Role, function: FnId) -> bool
+        ensures { IsTrue result ↔ Holds (view self.now.lists) (consequence (Part.Fork role function) Held.Nothing) }
+    {
+        self.forks.contains(&(role, function))
+    }
+
+    fn holds_stirred(&self, object: Obj) -> bool
+        ensures { IsTrue result ↔ Holds (view self.now.lists) (consequence (Part.Stirred object) Held.Nothing) }
+    {
+        self.stirred.contains(&object)
+    }
+
     /// Whether the facts hold a consequence.
     pub fn holds(&self, p: &Part, h: &Held) -> bool
         requires { IsFit self.now.lists.depth (consequence p.now h.now) }
         ensures { IsTrue result ↔ Holds (view self.now.lists) (consequence p.now h.now) }
     {
         match (p, h) {
-            (Part::Cell(cell), Held::State(state)) => match self.cells.get(cell) {
-                Some(held) => state.below(held),
-                None => false,
-            },
-            (Part::Target(holder, target), Held::Nothing) => match self.targets.get(holder) {
-                Some(targets) => targets.has(*target),
-                None => false,
-            },
+            (Part::Cell(cell), Held::State(state)) => self.holds_state(*cell, state),
+            (Part::Target(holder, target), Held::Nothing) => self.holds_target(*holder, *target),
             (Part::Installed(signal, function), Held::Installed(installed)) => {
-                match self.installed.get(&(*signal, *function)) {
-                    Some(held) => installed.below(*held),
-                    None => false,
-                }
+                self.holds_installed(*signal, *function, *installed)
             }
-            (Part::Thread(function), Held::Nothing) => self.threads.contains(function),
-            (Part::Fork(role, function), Held::Nothing) => self.forks.contains(&(*role, *function)),
-            (Part::Stirred(object), Held::Nothing) => self.stirred.contains(object),
+            (Part::Thread(function), Held::Nothing) => self.holds_thread(*function),
+            (Part::Fork(role, function), Held::Nothing) => self.holds_fork(*role, *function),
+            (Part::Stirred(object), Held::Nothing) => self.holds_stirred(*object),
             _ => false,
         }
     }

@@ -2,13 +2,20 @@
 use Rattle.std.proofs.Common.{◌≡◌, ℕ, zero, suc, ◌+◌, ◌<◌, ◌≤◌, List, [], ◌∷◌, ◌++◌, length, take, drop, get_or, Bool, true, false, refl, sym, ap, ◌∙◌, subst, arith, ◌||◌}
 use Rattle.std.specs.Ordering.{is_eq, is_lt, ordering_reverse, ordering_index}
 use Rattle.std.specs.Cmp.{IsTotalOrder}
-use Rattle.std.specs.List.{list_any, insert, AllWithin, AllByRecursion}
+use Rattle.std.specs.List.{list_any, insert, AllWithin, AllByRecursion, HoldsAt}
 use Rattle.std.specs.List.Sorted.{IsStrictlySortedBy, IsSortedBy, IsNonDecreasingBy, IsPartitionPoint}
 use Rattle.std.specs.BTreeMap.{is_at}
 use Rattle.std.specs.declared.cmp.Ordering.{Ordering}
 use Rattle.std.specs.declared.cmp.Ordering.TheVariants.{Less, Equal, Greater}
+use Rattle.std.proofs.lemmas.Cmp.{tied_back}
 use Rattle.std.proofs.lemmas.Map.Keys.{Less-from_sorted}
+use Rattle.std.proofs.lemmas.Map.Lookups.{CmpEqualImpliesEq}
+use Rattle.std.proofs.lemmas.Map.Views.{tells_apart}
 use Rattle.std.proofs.lemmas.List.Sorted.{searchable_from_sorted, IsPermutation-insert, list_any-IsPermutation}
+
+true_last : (a b : Bool) → b ≡ true → (a || b) ≡ true
+true_last true b h = refl
+true_last false b h = h
 
 both_false : (a b : Bool) → a ≡ false → b ≡ false → (a || b) ≡ false
 both_false a b h g = λ i. h i || g i
@@ -49,6 +56,12 @@ module _ {K : Type 0} {R : K → K → Ordering} (o : IsTotalOrder R) where
         (λ k d h below. high (suc k) d (omega (arith, h)) (omega (arith, below))),
   )
 
+  -- a key that a search finds is there
+  pub present : (xs : List K) (i : ℕ) (x : K) → i < length xs → HoldsAt (λ y. R y x ≡ Equal) xs i → list_any (is_at (R x)) xs ≡ true
+  present [] i x below h = absurd (omega (arith, below))
+  present (y ∷ ys) zero x below h = ap (λ b. b || list_any (is_at (R x)) ys) (ap is_eq (tied_back o y x (h y)))
+  present (y ∷ ys) (suc i) x below h = true_last (is_at (R x) y) _ (present ys i x (omega (arith, below)) (λ d. h d))
+
   -- a key that is neither before nor behind the place isn't there
   pub absent : (xs : List K) (i : ℕ) (x : K) → AllWithin (λ y. R y x ≡ Less) xs 0 i → AllWithin (λ y. R y x ≡ Greater) xs i (length xs) → list_any (is_at (R x)) xs ≡ false
   absent [] i x low high = refl
@@ -64,3 +77,27 @@ module _ {K : Type 0} {R : K → K → Ordering} (o : IsTotalOrder R) where
 -- what a list has after an insert
 pub list_any-insert : {K : Type 0} (p : K → Bool) (xs : List K) (i : ℕ) (x : K) → list_any p (insert xs i x) ≡ list_any p (x ∷ xs)
 list_any-insert p xs i x = sym (list_any-IsPermutation p (x ∷ xs) (insert xs i x) (IsPermutation-insert xs i x))
+
+-- what was there, where the key was
+pub covered : {K : Type 0} {R : K → K → Ordering} (o : IsTotalOrder R) (exact : CmpEqualImpliesEq R) (xs : List K) (x y : K)
+    → list_any (is_at (R x)) xs ≡ true → list_any (is_at (R y)) xs ≡ (list_any (is_at (R y)) (x ∷ []) || list_any (is_at (R y)) xs)
+covered {K} {R} o exact xs x y there = by_test (is_at (R y) x) refl
+  where
+    by_test : (b : Bool) → is_at (R y) x ≡ b → list_any (is_at (R y)) xs ≡ ((b || false) || list_any (is_at (R y)) xs)
+    by_test true e = ap (λ z. list_any (is_at (R z)) xs) (tells_apart exact y x e) ∙ there
+    by_test false e = refl
+
+pub sorted_one : {K : Type 0} (R : K → K → Ordering) (x : K) → IsStrictlySortedBy R (x ∷ [])
+unfolding IsStrictlySortedBy
+sorted_one R x = (tt, tt)
+
+pub sorted_none : {K : Type 0} (R : K → K → Ordering) → IsStrictlySortedBy R []
+unfolding IsStrictlySortedBy
+sorted_none R = tt
+
+-- an insert leaves something
+pub some_insert : {K : Type 0} (xs : List K) (i : ℕ) (x : K) (empty : List K → Bool) → ((y : K) (ys : List K) → empty (y ∷ ys) ≡ false) → empty (insert xs i x) ≡ false
+some_insert [] zero x empty h = h x []
+some_insert [] (suc i) x empty h = h x []
+some_insert (y ∷ ys) zero x empty h = h x (y ∷ ys)
+some_insert (y ∷ ys) (suc i) x empty h = h y (insert ys i x)

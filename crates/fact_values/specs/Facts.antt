@@ -16,7 +16,7 @@ use Rattle.call_ctx.specs.Contexts.{IsWithin}
 use Rattle.call_ctx.specs.Order.{role_cmp, cell_cmp}
 use Rattle.abstract_values.specs.declared.state.State.{State}
 use Rattle.abstract_values.specs.Sets.{SetUnder, set_join, IsSomeSet}
-use Rattle.abstract_values.specs.States.{Under, IsWellFormed}
+use Rattle.abstract_values.specs.States.{Under, IsJoin, IsWellFormed}
 use Rattle.fact_values.specs.declared.object.Obj.{Obj}
 use Rattle.fact_values.specs.declared.object.Holder.{Holder}
 use Rattle.fact_values.specs.declared.object.Target.{Target}
@@ -141,6 +141,17 @@ pub record IsLeastWith (f : View) (q : Consequence) (g : View) : Type 0 where
   pub holds : Holds g q
   pub above : Below f g
   pub least : (h : View) → Below f h → Holds h q → Below g h
+
+-- the new state of a cell that had this one, or none
+pub record IsNewState (before : Option State) (s u : State) : Type 0 where
+  pub fresh : before ≡ None → u ≡ s
+  pub joined : (t : State) → before ≡ Some t → IsJoin t s u
+  pub formed : IfSome before IsWellFormed → IsWellFormed s → IsWellFormed u
+
+-- how a function is installed anew that was installed so, or not
+pub record IsNewInstalled (before : Option Installed) (i u : Installed) : Type 0 where
+  pub fresh : before ≡ None → u ≡ i
+  pub joined : (t : Installed) → before ≡ Some t → u ≡ installed_join t i
 
 -- what `add` does: the new facts are the least, and they grew exactly where the old ones didn't hold it
 pub record Adds (q : Consequence) (answer : Bool) (old new : FactLists) : Type 0 where

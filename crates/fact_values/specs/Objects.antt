@@ -1,5 +1,6 @@
 -- Objects, holders and targets: their order, and how many sites their contexts keep.
-use Rattle.std.specs.Prelude.{ℕ, List, [], ◌∷◌, Bool, true, false}
+use Rattle.std.specs.Prelude.{◌≡◌, ℕ, List, [], ◌∷◌, Bool, true, false, not, ◌||◌}
+use Rattle.std.specs.Bool.{OnFalse}
 use Rattle.std.specs.Ordering.{nat_cmp, ordering_then}
 use Rattle.std.specs.List.{list_any}
 use Rattle.std.specs.BTreeMap.{is_at}
@@ -73,3 +74,9 @@ has_target targets t = list_any (is_at (target_cmp t)) targets
 abbrev pub is_empty : List Target → Bool
 is_empty [] = true
 is_empty (t ∷ targets) = false
+
+-- what an insert makes of a list of targets
+pub record InsertsTarget (t : Target) (answer : Bool) (old new : List Target) : Type 0 where
+  pub has : (u : Target) → has_target new u ≡ (has_target (t ∷ []) u || has_target old u)
+  pub grew : answer ≡ not (has_target old t)
+  pub same : OnFalse answer (new ≡ old)

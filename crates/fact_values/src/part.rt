@@ -17,15 +17,15 @@ pub struct Installed {
 
 impl Installed {
     /// Whether the other says no more than this one.
-    pub fn below(self, o: Installed) -> bool
-        ensures { IsTrue result ↔ InstalledUnder self o }
+    pub fn below(&self, o: &Installed) -> bool
+        ensures { IsTrue result ↔ InstalledUnder self.now o.now }
     {
         self.mask.below(o.mask) && (o.deferred || !self.deferred)
     }
 
     /// What both say.
-    pub fn join(self, o: Installed) -> Installed
-        ensures { result ≡ installed_join self o }
+    pub fn join(&self, o: &Installed) -> Installed
+        ensures { result ≡ installed_join self.now o.now }
     {
         Installed {
             mask: self.mask.join(o.mask),

@@ -1,7 +1,6 @@
-ghost use Rattle.std.specs.Prelude.{◌≡◌, [], ◌∷◌, slice_get, true, false, not, ◌||◌, OnOk, OnErr, IfOk};
-ghost use Rattle.std.specs.Bool.{OnFalse};
+ghost use Rattle.std.specs.Prelude.{◌≡◌, [], ◌∷◌, slice_get, false, OnErr, IfOk};
 ghost use Rattle.std.specs.List.Sorted.{IsStrictlySortedBy};
-ghost use Rattle.fact_values.specs.Objects.{target_cmp, has_target, is_empty};
+ghost use Rattle.fact_values.specs.Objects.{target_cmp, has_target, is_empty, InsertsTarget};
 
 use crate::Target;
 use base_core::NoMemory;
@@ -39,15 +38,15 @@ impl TargetSet {
     pub(crate) fn has(&self, target: Target) -> bool
         ensures { result ≡ has_target self.now target }
     {
-        self.items.binary_search(&target).is_ok()
+        match self.items.binary_search(&target) {
+            Ok(_) => true,
+            Err(_) => false,
+        }
     }
 
     /// Takes the target in; true exactly where it was none of these. Without memory all stays.
     pub(crate) fn insert(&mut self, target: Target) -> Result<bool, NoMemory>
-        ensures has { OnOk result ((t : Target) → has_target self.new t ≡ (has_target (target ∷ []) t || has_target self.old t)) }
-        ensures grew { IfOk result (λ grew. grew ≡ not (has_target self.old target)) }
-        ensures same { IfOk result (λ grew. OnFalse grew (self.new ≡ self.old)) }
-        ensures within { (t : Target) → has_target self.new t ≡ true → (has_target (target ∷ []) t || has_target self.old t) ≡ true }
+        ensures inserts { IfOk result (λ grew. InsertsTarget target grew self.old self.new) }
         ensures sorted { IsStrictlySortedBy target_cmp self.new }
         ensures some { is_empty self.old ≡ false → is_empty self.new ≡ false }
         ensures err { OnErr result (self.new ≡ self.old) }

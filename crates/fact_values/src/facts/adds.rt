@@ -1,6 +1,5 @@
 ghost use Rattle.std.specs.Prelude.{◌≡◌, OnErr, IfOk};
-ghost use Rattle.abstract_values.specs.States.{IsJoin, IsWellFormed};
-ghost use Rattle.fact_values.specs.Facts.{consequence, IsFit, Adds};
+ghost use Rattle.fact_values.specs.Facts.{view, consequence, IsFit, Adds, IsNewState, IsNewInstalled};
 
 use super::Facts;
 use crate::target_set::TargetSet;
@@ -8,34 +7,31 @@ use crate::{Held, Holder, Installed, Obj, Part, Target};
 use abstract_values::State;
 use base_core::{FnId, NoMemory, Sig};
 use call_ctx::{Cell, Role};
-use std::alloc::Global;
-
-/// The least state above both.
-fn join_of(alloc: Global, held: &State, state: &State) -> Result<State, NoMemory>
-    ensures join { IfOk result (IsJoin held.now state.now) }
-    ensures formed { IfOk result (λ joined. IsWellFormed held.now → IsWellFormed state.now → IsWellFormed joined) }
-{
-    let mut joined = held.copy(alloc)?;
-    joined.join(state)?;
-    Ok(joined)
-}
 
 impl Facts {
+    /// The state that the cell gets where it does not hold this one.
+    fn joined_at(&self, cell: Cell, state: &State) -> Result<State, NoMemory>
+        ensures { IfOk result (IsNewState ((view self.now.lists).state_at cell) state.now) }
+    {
+        match self.cells.get(&cell) {
+            None => state.copy(self.alloc),
+            Some(held) => {
+                let mut joined = held.copy(self.alloc)?;
+                joined.join(state)?;
+                Ok(joined)
+            }
+        }
+    }
+
     fn add_state(&mut self, cell: Cell, state: &State) -> Result<bool, NoMemory>
         requires { IsFit self.old.lists.depth (consequence (Part.Cell cell) (Held.State state.now)) }
         ensures adds { IfOk result (λ grew. Adds (consequence (Part.Cell cell) (Held.State state.now)) grew self.old.lists self.new.lists) }
         ensures err { OnErr result (self.new.lists ≡ self.old.lists) }
     {
-        let alloc = self.alloc;
-        let joined = match self.cells.get(&cell) {
-            None => state.copy(alloc)?,
-            Some(held) => {
-                if state.below(held) {
-                    return Ok(false);
-                }
-                join_of(alloc, held, state)?
-            }
-        };
+        if self.holds_state(cell, state) {
+            return Ok(false);
+        }
+        let joined = self.joined_at(cell, state)?;
         let Ok(_) = self.cells.insert(cell, joined) else {
             return Err(NoMemory);
         };
@@ -58,28 +54,31 @@ impl Facts {
         Ok(true)
     }
 
+    /// How the function gets installed for the signal where it is not installed so.
+    fn joined_for(&self, signal: Sig, function: FnId, installed: &Installed) -> Installed
+        ensures { IsNewInstalled ((view self.now.lists).installed_at signal function) installed.now result }
+    {
+        match self.installed.get(&(signal, function)) {
+            None => *installed,
+            Some(held) => held.join(installed),
+        }
+    }
+
     fn add_installed(
         &mut self,
         signal: Sig,
         function: FnId,
-        installed: Installed,
+        installed: &Installed,
     ) -> Result<bool, NoMemory>
-        requires { IsFit self.old.lists.depth (consequence (Part.Installed signal function) (Held.Installed installed)) }
-        ensures adds { IfOk result (λ grew. Adds (consequence (Part.Installed signal function) (Held.Installed installed)) grew self.old.lists self.new.lists) }
+        requires { IsFit self.old.lists.depth (consequence (Part.Installed signal function) (Held.Installed installed.now)) }
+        ensures adds { IfOk result (λ grew. Adds (consequence (Part.Installed signal function) (Held.Installed installed.now)) grew self.old.lists self.new.lists) }
         ensures err { OnErr result (self.new.lists ≡ self.old.lists) }
     {
-        let key = (signal, function);
-        let held = self.installed.get(&key).copied();
-        let joined = match held {
-            None => installed,
-            Some(held) => {
-                if installed.below(held) {
-                    return Ok(false);
-                }
-                held.join(installed)
-            }
-        };
-        let Ok(_) = self.installed.insert(key, joined) else {
+        if self.holds_installed(signal, function, installed) {
+            return Ok(false);
+        }
+        let joined = self.joined_for(signal, function, installed);
+        let Ok(_) = self.installed.insert((signal, function), joined) else {
             return Err(NoMemory);
         };
         Ok(true)
@@ -128,7 +127,7 @@ impl Facts {
             (Part::Cell(cell), Held::State(state)) => self.add_state(*cell, state),
             (Part::Target(holder, target), Held::Nothing) => self.add_target(*holder, *target),
             (Part::Installed(signal, function), Held::Installed(installed)) => {
-                self.add_installed(*signal, *function, *installed)
+                self.add_installed(*signal, *function, installed)
             }
             (Part::Thread(function), Held::Nothing) => self.add_thread(*function),
             (Part::Fork(role, function), Held::Nothing) => self.add_fork(*role, *function),

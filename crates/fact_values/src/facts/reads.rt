@@ -115,7 +115,7 @@ impl Facts {
         self.stirred.iter().nth(k).copied()
     }
 
-    fn holds_state(&self, cell: Cell, state: &State) -> bool
+    pub(super) fn holds_state(&self, cell: Cell, state: &State) -> bool
         ensures { IsTrue result ↔ Holds (view self.now.lists) (consequence (Part.Cell cell) (Held.State state.now)) }
     {
         match self.cells.get(&cell) {
@@ -133,10 +133,10 @@ impl Facts {
         }
     }
 
-    fn holds_installed(&self, signal: Sig, function: FnId, installed: Installed) -> bool
-        ensures { IsTrue result ↔ Holds (view self.now.lists) (consequence (Part.Installed signal function) (Held.Installed installed)) }
+    pub(super) fn holds_installed(&self, signal: Sig, function: FnId, installed: &Installed) -> bool
+        ensures { IsTrue result ↔ Holds (view self.now.lists) (consequence (Part.Installed signal function) (Held.Installed installed.now)) }
     {
-        match self.installed.get(&(signal, function)).copied() {
+        match self.installed.get(&(signal, function)) {
             Some(held) => installed.below(held),
             None => false,
         }
@@ -169,7 +169,7 @@ impl Facts {
             (Part::Cell(cell), Held::State(state)) => self.holds_state(*cell, state),
             (Part::Target(holder, target), Held::Nothing) => self.holds_target(*holder, *target),
             (Part::Installed(signal, function), Held::Installed(installed)) => {
-                self.holds_installed(*signal, *function, *installed)
+                self.holds_installed(*signal, *function, installed)
             }
             (Part::Thread(function), Held::Nothing) => self.holds_thread(*function),
             (Part::Fork(role, function), Held::Nothing) => self.holds_fork(*role, *function),

@@ -1,0 +1,16 @@
+use Rattle.std.proofs.Common.{◌≡◌, sym, subst, ◌∙◌, ap, Bool, true, false, List}
+use Rattle.std.specs.Prelude.{Some, None, Option}
+use Rattle.std.specs.BTreeMap.{is_at}
+use Rattle.std.specs.Map.{lookup}
+use Rattle.call_ctx.specs.Order.{cell_cmp}
+use Rattle.fact_values.specs.declared.part.Part.TheVariants as part
+use Rattle.fact_values.specs.declared.part.Held.TheVariants as held
+use Rattle.fact_values.specs.FactLists.{FactLists, FactsValue}
+use Rattle.fact_values.specs.Facts.{view, consequence, handler_cmp, IsFit, Adds, Holds, InstalledUnder}
+use Rattle.std.specs.List.Sorted.{IsStrictlySortedBy}
+use Rattle.fact_values.specs.Objects.{target_cmp}
+use Rattle.fact_values.proofs.Ascending.{sorted_one}
+use Rattle.fact_values.proofs.target_set.TargetSet.of.Goals as goal
+
+pub invariant_of-result : goal.invariant_of-result
+invariant_of-result c = subst (λ xs. IsStrictlySortedBy target_cmp xs) (sym c.in-Ok.ensures.items) (sorted_one target_cmp c.args.target)

@@ -87,6 +87,13 @@ covered {K} {R} o exact xs x y there = by_test (is_at (R y) x) refl
     by_test true e = ap (λ z. list_any (is_at (R z)) xs) (tells_apart exact y x e) ∙ there
     by_test false e = refl
 
+pub has_insert : {K : Type 0} (p : K → Bool) (xs : List K) (i : ℕ) (x : K) → list_any p (insert xs i x) ≡ (list_any p (x ∷ []) || list_any p xs)
+has_insert p xs i x = list_any-insert p xs i x ∙ ap (λ b. b || list_any p xs) (sym (or_false (p x)))
+  where
+    or_false : (b : Bool) → (b || false) ≡ b
+    or_false true = refl
+    or_false false = refl
+
 pub sorted_one : {K : Type 0} (R : K → K → Ordering) (x : K) → IsStrictlySortedBy R (x ∷ [])
 unfolding IsStrictlySortedBy
 sorted_one R x = (tt, tt)

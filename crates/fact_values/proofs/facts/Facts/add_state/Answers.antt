@@ -15,14 +15,14 @@ pub invariant_of-self-2 : goal.invariant_of-self-2
 invariant_of-self-2 c =
     let old : FactLists = record { depth = c.self.inside.depth; cells = c.self.inside.cells.entries; targets = c.self.inside.targets.entries; installed = c.self.inside.installed.entries; threads = c.self.inside.threads.keys; forks = c.self.inside.forks.keys; stirred = c.self.inside.stirred.keys } in
     let fit : IsFit old.depth (consequence (part.Cell c.args.cell) (held.State c.args.state.now)) = subst (λ (v : FactsValue). IsFit v.lists.depth (consequence (part.Cell c.args.cell) (held.State c.args.state.now))) (sym c.self.view_is) c.requires in
-    cells_facts old c.self.invariant c.insert.new.self.entries c.args.cell c.args.state.now c.in_ok-joined_at.field-0 c.in-Ok.ensures.updates.0
-    (subst (λ (v : FactsValue). IsNewState ((view v.lists).state_at c.args.cell) c.args.state.now c.in_ok-joined_at.field-0) (sym c.self.view_is) c.in_ok-joined_at.ensures) fit
+    cells_facts old c.self.invariant c.insert.new.self.entries c.args.cell c.args.state.now c.in_ok-joined.joined c.in-Ok.ensures.updates.0
+    (subst (λ (v : FactsValue). IsNewState ((view v.lists).state_at c.args.cell) c.args.state.now c.in_ok-joined.joined) (sym c.self.view_is) c.in_ok-joined.ensures) fit
 
 pub returns-clause-adds : goal.returns-clause-adds
 returns-clause-adds c =
     let old : FactLists = record { depth = c.self.inside.depth; cells = c.self.inside.cells.entries; targets = c.self.inside.targets.entries; installed = c.self.inside.installed.entries; threads = c.self.inside.threads.keys; forks = c.self.inside.forks.keys; stirred = c.self.inside.stirred.keys } in
     subst (λ (v : FactsValue). Adds (consequence (part.Cell c.args.cell) (held.State c.args.state.now)) true v.lists (record old { cells = c.insert.new.self.entries })) c.self.view_is
-    (cells_adds old c.self.invariant c.insert.new.self.entries c.args.cell c.args.state.now c.in_ok-joined_at.field-0 c.in-Ok.ensures.updates.0
-    (subst (λ (v : FactsValue). IsNewState ((view v.lists).state_at c.args.cell) c.args.state.now c.in_ok-joined_at.field-0) (sym c.self.view_is) c.in_ok-joined_at.ensures)
+    (cells_adds old c.self.invariant c.insert.new.self.entries c.args.cell c.args.state.now c.in_ok-joined.joined c.in-Ok.ensures.updates.0
+    (subst (λ (v : FactsValue). IsNewState ((view v.lists).state_at c.args.cell) c.args.state.now c.in_ok-joined.joined) (sym c.self.view_is) c.in_ok-joined.ensures)
     (λ x. let h = c.holds_state.ensures.1 (subst (λ (v : FactsValue). Holds (view v.lists) (consequence (part.Cell c.args.cell) (held.State c.args.state.now))) c.self.view_is x) in
-    let f = c.if-not-holds_state.false in absurd cc))
+    let f = c.if-holds_state.false in absurd cc))

@@ -7,7 +7,7 @@ use Rattle.fact_values.specs.declared.part.Part.TheVariants as part
 use Rattle.fact_values.specs.declared.part.Held.TheVariants as held
 use Rattle.fact_values.specs.FactLists.{FactLists, FactsValue}
 use Rattle.fact_values.specs.Facts.{view, consequence, handler_cmp, IsFit, Adds, Holds, InstalledUnder}
-use Rattle.std.proofs.Common.{[], ◌∷◌, cond}
+use Rattle.std.proofs.Common.{refl, [], ◌∷◌, cond}
 use Rattle.std.specs.BTreeMap.{BTreeMap}
 use Rattle.std.specs.Option.{IsSome}
 use Rattle.std.specs.Map.{set_value}
@@ -25,7 +25,7 @@ invariant_of-self c =
     let old : FactLists = record { depth = c.self.inside.depth; cells = c.self.inside.cells.entries; targets = c.self.inside.targets.entries; installed = c.self.inside.installed.entries; threads = c.self.inside.threads.keys; forks = c.self.inside.forks.keys; stirred = c.self.inside.stirred.keys } in
     let fit : IsFit old.depth (consequence (part.Target c.args.holder c.args.target) held.Nothing) = subst (λ (v : FactsValue). IsFit v.lists.depth (consequence (part.Target c.args.holder c.args.target) held.Nothing)) (sym c.self.view_is) c.requires in
     let is : lookup (is_at (holder_cmp c.args.holder)) old.targets ≡ Some c.in-Some.held.now = sym c.in-Some.ensures.value in
-    let some : IsSome (lookup (is_at (holder_cmp c.args.holder)) old.targets) = rw is tt in
+    let some : IsSome (lookup (is_at (holder_cmp c.args.holder)) old.targets) = rw is refl in
     either c.insert.result _ _ c.insert.ensures.inserts c.insert.ensures.err
     (λ grew ins. more_facts old c.self.invariant (c.get_mut.follows.lender c.insert.new.self).entries c.args.holder c.args.target fit c.in-Some.held.now c.insert.new.self grew ins
     ((c.get_mut.follows.holds c.insert.new.self).3 some).0 is c.insert.ensures.some c.insert.ensures.sorted)
@@ -37,7 +37,7 @@ returns-in-Some-clause-adds c =
     let old : FactLists = record { depth = c.self.inside.depth; cells = c.self.inside.cells.entries; targets = c.self.inside.targets.entries; installed = c.self.inside.installed.entries; threads = c.self.inside.threads.keys; forks = c.self.inside.forks.keys; stirred = c.self.inside.stirred.keys } in
     let fit : IsFit old.depth (consequence (part.Target c.args.holder c.args.target) held.Nothing) = subst (λ (v : FactsValue). IsFit v.lists.depth (consequence (part.Target c.args.holder c.args.target) held.Nothing)) (sym c.self.view_is) c.requires in
     let is : lookup (is_at (holder_cmp c.args.holder)) old.targets ≡ Some c.in-Some.held.now = sym c.in-Some.ensures.value in
-    let some : IsSome (lookup (is_at (holder_cmp c.args.holder)) old.targets) = rw is tt in
+    let some : IsSome (lookup (is_at (holder_cmp c.args.holder)) old.targets) = rw is refl in
     IfOk-weaker c.insert.result _ _
     (λ grew ins. subst (λ (v : FactsValue). Adds (consequence (part.Target c.args.holder c.args.target) held.Nothing) grew v.lists (record old { targets = (c.get_mut.follows.lender c.insert.new.self).entries })) c.self.view_is
     (more_adds old c.self.invariant (c.get_mut.follows.lender c.insert.new.self).entries c.args.holder c.args.target fit c.in-Some.held.now c.insert.new.self grew ins
@@ -59,8 +59,20 @@ invariant_of-self-2 c =
     let old : FactLists = record { depth = c.self.inside.depth; cells = c.self.inside.cells.entries; targets = c.self.inside.targets.entries; installed = c.self.inside.installed.entries; threads = c.self.inside.threads.keys; forks = c.self.inside.forks.keys; stirred = c.self.inside.stirred.keys } in
     let fit : IsFit old.depth (consequence (part.Target c.args.holder c.args.target) held.Nothing) = subst (λ (v : FactsValue). IsFit v.lists.depth (consequence (part.Target c.args.holder c.args.target) held.Nothing)) (sym c.self.view_is) c.requires in
     let none : lookup (is_at (holder_cmp c.args.holder)) old.targets ≡ None = sym c.in_default.ensures.value in
-    first_facts old c.self.invariant c.insert.new.self.entries c.args.holder c.args.target fit
-    (λ k. c.in-Ok.ensures.updates.0 k ∙ ap (λ (x : List Target). cond (is_at (holder_cmp c.args.holder) k) (Some x) (lookup (is_at (holder_cmp k)) c.get_mut.new.self.entries)) c.in_ok-of.ensures ∙ ap (λ (es : List (Holder × List Target)). cond (is_at (holder_cmp c.args.holder) k) (Some (c.args.target ∷ [])) (lookup (is_at (holder_cmp k)) es)) (ap (λ (m : BTreeMap Holder (List Target)). m.entries) c.get_mut.follows.holds-at-none)) none
+    let puts : (k : Holder) → lookup (is_at (holder_cmp k)) c.insert-2.new.self.entries ≡ cond (is_at (holder_cmp c.args.holder) k) (Some (c.args.target ∷ [])) (lookup (is_at (holder_cmp k)) old.targets) =
+    λ k. c.in-Ok.ensures.updates.0 k
+    ∙ ap (λ (m : BTreeMap Holder (List Target)). cond (is_at (holder_cmp c.args.holder) k) (Some c.in_ok-targets.targets) (lookup (is_at (holder_cmp k)) m.entries)) c.get_mut.follows.holds-at-none
+    ∙ ap (λ (x : List Target). cond (is_at (holder_cmp c.args.holder) k) (Some x) (lookup (is_at (holder_cmp k)) old.targets)) c.in_ok-targets.ensures in
+    first_facts old c.self.invariant c.insert-2.new.self.entries c.args.holder c.args.target fit puts none
 
 pub returns-clause-adds : goal.returns-clause-adds
-returns-clause-adds c = ?
+returns-clause-adds c =
+    let old : FactLists = record { depth = c.self.inside.depth; cells = c.self.inside.cells.entries; targets = c.self.inside.targets.entries; installed = c.self.inside.installed.entries; threads = c.self.inside.threads.keys; forks = c.self.inside.forks.keys; stirred = c.self.inside.stirred.keys } in
+    let fit : IsFit old.depth (consequence (part.Target c.args.holder c.args.target) held.Nothing) = subst (λ (v : FactsValue). IsFit v.lists.depth (consequence (part.Target c.args.holder c.args.target) held.Nothing)) (sym c.self.view_is) c.requires in
+    let none : lookup (is_at (holder_cmp c.args.holder)) old.targets ≡ None = sym c.in_default.ensures.value in
+    let puts : (k : Holder) → lookup (is_at (holder_cmp k)) c.insert-2.new.self.entries ≡ cond (is_at (holder_cmp c.args.holder) k) (Some (c.args.target ∷ [])) (lookup (is_at (holder_cmp k)) old.targets) =
+    λ k. c.in-Ok.ensures.updates.0 k
+    ∙ ap (λ (m : BTreeMap Holder (List Target)). cond (is_at (holder_cmp c.args.holder) k) (Some c.in_ok-targets.targets) (lookup (is_at (holder_cmp k)) m.entries)) c.get_mut.follows.holds-at-none
+    ∙ ap (λ (x : List Target). cond (is_at (holder_cmp c.args.holder) k) (Some x) (lookup (is_at (holder_cmp k)) old.targets)) c.in_ok-targets.ensures in
+    subst (λ (v : FactsValue). Adds (consequence (part.Target c.args.holder c.args.target) held.Nothing) true v.lists (record old { targets = c.insert-2.new.self.entries })) c.self.view_is
+    (first_adds old c.self.invariant c.insert-2.new.self.entries c.args.holder c.args.target fit puts none)

@@ -17,11 +17,3 @@ returns-in-None c =
     let is : lookup (is_at (cell_cmp c.args.cell)) c.args.self.now.lists.cells ≡ None =
     subst (λ (v : FactsValue). lookup (is_at (cell_cmp c.args.cell)) v.lists.cells ≡ None) c.self.view_is (sym c.in-None.ensures.value) in
     IfOk-weaker c.copy.result _ _ (λ u e. state_fresh _ c.args.state.now u is e) c.copy.ensures
-
-pub returns-in-Some : goal.returns-in-Some
-returns-in-Some c =
-    let is : lookup (is_at (cell_cmp c.args.cell)) c.args.self.now.lists.cells ≡ Some c.in-Some.held.now =
-    subst (λ (v : FactsValue). lookup (is_at (cell_cmp c.args.cell)) v.lists.cells ≡ Some c.in-Some.held.now) c.self.view_is (sym c.in-Some.ensures.value) in
-    state_over _ c.args.state.now c.in-Some.held.now c.join.new.self is
-    (subst (λ x. IsJoin x c.args.state.now c.join.new.self) c.in_ok-copy.ensures c.in_ok-join.ensures.join)
-    (subst (λ x. IsWellFormed x → IsWellFormed c.args.state.now → IsWellFormed c.join.new.self) c.in_ok-copy.ensures c.in_ok-join.ensures.formed)

@@ -17,7 +17,7 @@ use Rattle.call_ctx.proofs.Compared.{exact_cell, cell_total}
 use Rattle.abstract_values.specs.declared.state.State.{State}
 use Rattle.abstract_values.specs.Sets.{IsSomeSet}
 use Rattle.abstract_values.specs.States.{Under, IsJoin, IsWellFormed}
-use Rattle.abstract_values.proofs.States.{under_refl, under_trans}
+use Rattle.abstract_values.proofs.Laws.{under_refl, under_trans}
 use Rattle.fact_values.specs.declared.object.Obj.{Obj}
 use Rattle.fact_values.specs.declared.object.Holder.{Holder}
 use Rattle.fact_values.specs.declared.object.Target.{Target}

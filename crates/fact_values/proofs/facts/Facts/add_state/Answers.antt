@@ -8,7 +8,7 @@ use Rattle.fact_values.specs.declared.part.Held.TheVariants as held
 use Rattle.fact_values.specs.FactLists.{FactLists, FactsValue}
 use Rattle.fact_values.specs.Facts.{view, consequence, handler_cmp, IsFit, Adds, Holds, InstalledUnder}
 use Rattle.fact_values.specs.Facts.{IsNewState}
-use Rattle.fact_values.proofs.Grown.{cells_facts, cells_adds}
+use Rattle.fact_values.proofs.Grown.{cells_facts, cells_adds, adds_none}
 use Rattle.fact_values.proofs.facts.Facts.add_state.Goals as goal
 
 pub invariant_of-self-2 : goal.invariant_of-self-2
@@ -26,3 +26,6 @@ returns-clause-adds c =
     (subst (λ (v : FactsValue). IsNewState ((view v.lists).state_at c.args.cell) c.args.state.now c.in_ok-joined.joined) (sym c.self.view_is) c.in_ok-joined.ensures)
     (λ x. let h = c.holds_state.ensures.1 (subst (λ (v : FactsValue). Holds (view v.lists) (consequence (part.Cell c.args.cell) (held.State c.args.state.now))) c.self.view_is x) in
     let f = c.if-holds_state.false in absurd cc))
+
+pub returns-then-holds_state-clause-adds : goal.returns-then-holds_state-clause-adds
+returns-then-holds_state-clause-adds c = adds_none _ c.args.self.now.lists (c.holds_state.ensures.0 c.if-holds_state.true)

@@ -1,1 +1,11 @@
--- Laws and lemmas.
+pub mod Numbers
+pub mod Sets
+pub mod Places
+pub mod Codes
+pub mod FunctionOrder
+pub mod Keys
+pub mod Values
+pub mod Entries
+pub mod Walks
+pub mod Laws
+pub mod Outcomes

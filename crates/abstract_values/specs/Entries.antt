@@ -1,5 +1,5 @@
 -- Slots as a map: the entries in the order of their keys, and the value at each key.
-use Rattle.std.specs.Prelude.{◌≡◌, List, [], ◌∷◌, ◌++◌, Bool, cond, Option, Some, None}
+use Rattle.std.specs.Prelude.{◌≡◌, List, [], ◌∷◌, ◌++◌, Bool, cond, Option, Some, None, IsTrue, IsSomeAnd}
 use Rattle.std.specs.declared.cmp.Ordering.TheVariants.{Less}
 use Rattle.abstract_values.specs.declared.slot.Slot.{Slot}
 use Rattle.abstract_values.specs.declared.slot_value.SlotValue.{SlotValue}
@@ -38,8 +38,21 @@ SlotUnder None (Some w) = ⊥
 abbrev pub SlotsUnder : List Entry → List Entry → Type 0
 SlotsUnder lower upper = (key : Slot) → SlotUnder (slot_at lower key) (slot_at upper key)
 
+-- the entry that stands there has the key
+abbrev pub HasKey : Slot → Option Entry → Type 0
+HasKey key there = IsSomeAnd there (λ e. IsTrue (is_same e.0 key))
+
+-- the entry that stands there has the key of another, and a value below
+abbrev pub IsMet : Entry → Option Entry → Type 0
+IsMet entry there = IsSomeAnd there (λ e. IsTrue (is_same e.0 entry.0) × ValueUnder e.1 entry.1)
+
 abbrev pub entry_of : Slot → SlotValue → List Entry
 entry_of key v = cond (is_unknown v) [] ((key, v) ∷ [])
+
+-- what an entry has in common with the one that stands there
+abbrev pub common : Entry → Option Entry → List Entry
+common e None = []
+common e (Some other) = cond (is_same other.0 e.0) (entry_of e.0 (value_join e.1 other.1)) []
 
 abbrev pub joined_entry : Entry → Option SlotValue → List Entry
 joined_entry e None = []

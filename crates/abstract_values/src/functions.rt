@@ -1,5 +1,6 @@
 ghost use Rattle.std.specs.Prelude.{◌≡◌, ◌↔◌, ℕ, ◌+◌, ◌^◌, ◌<◌, ◌≤◌, List, [], ◌∷◌, drop, length, slice_get, OnOk, OnErr, IfOk, IfSome, IsTrue, not, nat_lt};
 ghost use Rattle.std.specs.Bool.{OnFalse};
+ghost use Rattle.std.specs.List.{insert};
 ghost use Rattle.abstract_values.specs.Places.{leading};
 ghost use Rattle.abstract_values.specs.Codes.{AreCodes, has_code, with_code, codes_join, CodesUnder};
 ghost use Rattle.abstract_values.specs.Functions.{FnsUnder, fns_join, is_any_fns, HasCodes};
@@ -49,7 +50,7 @@ impl FnList {
         ensures code { result ≡ slice_get self.now k }
         ensures range { IfSome result (λ code. code < 2 ^ 32 + 2) }
     {
-        self.codes.get(k).copied()
+        code_at(&self.codes, k)
     }
 
     /// Puts the code into the list, true exactly where it was new; without memory the list stays as it was.
@@ -60,14 +61,7 @@ impl FnList {
         ensures same { IfOk result (λ grew. OnFalse grew (self.new ≡ self.old)) }
         ensures err { OnErr result (self.new ≡ self.old) }
     {
-        let place = place_of(&self.codes, 0, code);
-        if place < self.codes.len() && self.codes[place] == code {
-            return Ok(false);
-        }
-        match self.codes.insert(place, code) {
-            Ok(()) => Ok(true),
-            Err(_) => Err(NoMemory),
-        }
+        add_code(&mut self.codes, code)
     }
 
     /// An equal list.
@@ -112,6 +106,51 @@ fn place_of(codes: &[u64], start: usize, code: u64) -> usize
     place
 }
 
+fn code_at(codes: &[u64], k: usize) -> Option<u64>
+    ensures { result ≡ slice_get codes.now k }
+{
+    codes.get(k).copied()
+}
+
+/// Whether the code stands at this place.
+fn is_at(codes: &[u64], place: usize, code: u64) -> bool
+    ensures { IsTrue result ↔ (slice_get codes.now place ≡ Some code) }
+{
+    match codes.get(place) {
+        Some(there) => *there == code,
+        None => false,
+    }
+}
+
+fn insert_at(codes: &mut Vec<u64>, place: usize, code: u64) -> Result<(), NoMemory>
+    requires { place ≤ length codes.old.items }
+    ensures ok { OnOk result (codes.new.items ≡ insert codes.old.items place code) }
+    ensures err { OnErr result (codes.new.items ≡ codes.old.items) }
+{
+    match codes.insert(place, code) {
+        Ok(()) => Ok(()),
+        Err(_) => Err(NoMemory),
+    }
+}
+
+/// Puts the code among codes that rise, true where it was new.
+fn add_code(codes: &mut Vec<u64>, code: u64) -> Result<bool, NoMemory>
+    requires range { code < 2 ^ 32 + 2 }
+    requires codes { AreCodes 0 codes.old.items }
+    ensures added { OnOk result (codes.new.items ≡ with_code code codes.old.items) }
+    ensures grew { IfOk result (λ grew. grew ≡ not (has_code codes.old.items code)) }
+    ensures same { IfOk result (λ grew. OnFalse grew (codes.new.items ≡ codes.old.items)) }
+    ensures codes { AreCodes 0 codes.new.items }
+    ensures err { OnErr result (codes.new.items ≡ codes.old.items) }
+{
+    let place = place_of(codes, 0, code);
+    if is_at(codes, place, code) {
+        return Ok(false);
+    }
+    insert_at(codes, place, code)?;
+    Ok(true)
+}
+
 /// Whether each code is one of the others, where both rise.
 fn are_below(codes: &[u64], others: &[u64]) -> bool
     requires codes { AreCodes 0 codes.now }
@@ -121,7 +160,7 @@ fn are_below(codes: &[u64], others: &[u64]) -> bool
     let mut place = 0;
     for &code in codes {
         place = place_of(others, place, code);
-        if place == others.len() || others[place] != code {
+        if !is_at(others, place, code) {
             return false;
         }
     }

@@ -13,6 +13,8 @@ mod slot;
 mod slot_value;
 mod slots;
 mod state;
+#[cfg(test)]
+mod tests;
 
 pub use functions::{AbsFns, FnList};
 pub use number::AbsInt;

@@ -1,9 +1,10 @@
-ghost use Rattle.std.specs.Prelude.{◌≡◌, ◌↔◌, ℕ, List, [], ◌∷◌, ◌+◌, ◌++◌, ◌≤◌, drop, length, slice_get, OnOk, OnErr, IfOk, IsTrue, None};
+ghost use Rattle.std.specs.Prelude.{◌≡◌, ◌↔◌, ℕ, List, [], ◌∷◌, ◌+◌, ◌++◌, ◌<◌, ◌≤◌, drop, length, slice_get, slice_set, OnOk, OnErr, IfOk, IsTrue, None};
+ghost use Rattle.std.specs.List.{insert, remove};
 ghost use Rattle.std.specs.Option.{option_copied, option_map};
 ghost use Rattle.abstract_values.specs.Places.{leading};
 ghost use Rattle.abstract_values.specs.Keys.{is_before};
-ghost use Rattle.abstract_values.specs.Values.{known, value_join};
-ghost use Rattle.abstract_values.specs.Entries.{slot_at, AreSlots, Puts, SlotsUnder, entry_of, slots_join};
+ghost use Rattle.abstract_values.specs.Values.{known, value_join, IsKept};
+ghost use Rattle.abstract_values.specs.Entries.{slot_at, AreSlots, Puts, SlotsUnder, HasKey, IsMet, entry_of, common, slots_join};
 
 use crate::{Slot, SlotValue};
 use base_core::NoMemory;
@@ -69,9 +70,10 @@ impl Slots {
         ensures { option_copied result ≡ slot_at self.now s }
     {
         let place = place_of(&self.entries, 0, s);
-        match self.entries.get(place) {
-            Some(entry) if entry.0.is_same(s) => Some(&entry.1),
-            _ => None,
+        if is_at(&self.entries, place, s) {
+            Some(&self.entries[place].1)
+        } else {
+            None
         }
     }
 
@@ -81,28 +83,17 @@ impl Slots {
         ensures err { OnErr result (self.new ≡ self.old) }
     {
         if v.is_unknown() {
-            self.remove(s);
+            remove_entry(&mut self.entries, s);
             return Ok(());
         }
-        let place = place_of(&self.entries, 0, s);
-        if place < self.entries.len() && self.entries[place].0.is_same(s) {
-            self.entries[place].1 = v;
-            return Ok(());
-        }
-        match self.entries.insert(place, (s, v)) {
-            Ok(()) => Ok(()),
-            Err(_) => Err(NoMemory),
-        }
+        set_entry(&mut self.entries, s, v)
     }
 
     /// Takes the key's value away; other keys stay.
     pub fn remove(&mut self, s: Slot)
         ensures { Puts s None self.old self.new }
     {
-        let place = place_of(&self.entries, 0, s);
-        if place < self.entries.len() && self.entries[place].0.is_same(s) {
-            self.entries.remove(place);
-        }
+        remove_entry(&mut self.entries, s);
     }
 
     /// Equal slots.
@@ -141,6 +132,88 @@ fn place_of(entries: &[(Slot, SlotValue)], start: usize, key: Slot) -> usize
         place += 1;
     }
     place
+}
+
+/// Whether the entry at this place has the key.
+fn is_at(entries: &[(Slot, SlotValue)], place: usize, key: Slot) -> bool
+    ensures at { IsTrue result ↔ HasKey key (slice_get entries.now place) }
+    ensures within { IsTrue result → place < length entries.now }
+{
+    match entries.get(place) {
+        Some(there) => there.0.is_same(key),
+        None => false,
+    }
+}
+
+/// Whether the entry at this place has the key of another, and a value below.
+fn is_met(lower: &[(Slot, SlotValue)], place: usize, entry: &(Slot, SlotValue)) -> bool
+    ensures { IsTrue result ↔ IsMet entry.now (slice_get lower.now place) }
+{
+    match lower.get(place) {
+        Some(there) => there.0.is_same(entry.0) && there.1.below(&entry.1),
+        None => false,
+    }
+}
+
+fn remove_at(entries: &mut Vec<(Slot, SlotValue)>, place: usize)
+    requires { place < length entries.old.items }
+    ensures { entries.new.items ≡ remove entries.old.items place }
+{
+    entries.remove(place);
+}
+
+fn replace_at(entries: &mut Vec<(Slot, SlotValue)>, place: usize, entry: (Slot, SlotValue))
+    requires { place < length entries.old.items }
+    ensures { entries.new.items ≡ slice_set entries.old.items place entry }
+{
+    entries[place] = entry;
+}
+
+fn insert_at(
+    entries: &mut Vec<(Slot, SlotValue)>,
+    place: usize,
+    entry: (Slot, SlotValue),
+) -> Result<(), NoMemory>
+    requires { place ≤ length entries.old.items }
+    ensures ok { OnOk result (entries.new.items ≡ insert entries.old.items place entry) }
+    ensures err { OnErr result (entries.new.items ≡ entries.old.items) }
+{
+    match entries.insert(place, entry) {
+        Ok(()) => Ok(()),
+        Err(_) => Err(NoMemory),
+    }
+}
+
+/// Takes the entry of a key away.
+fn remove_entry(entries: &mut Vec<(Slot, SlotValue)>, key: Slot)
+    requires { AreSlots entries.old.items }
+    ensures puts { Puts key None entries.old.items entries.new.items }
+    ensures slots { AreSlots entries.new.items }
+{
+    let place = place_of(entries, 0, key);
+    if is_at(entries, place, key) {
+        remove_at(entries, place);
+    }
+}
+
+/// Gives a key a value of which something is known.
+fn set_entry(
+    entries: &mut Vec<(Slot, SlotValue)>,
+    key: Slot,
+    value: SlotValue,
+) -> Result<(), NoMemory>
+    requires slots { AreSlots entries.old.items }
+    requires kept { IsKept value }
+    ensures puts { OnOk result (Puts key (known value) entries.old.items entries.new.items) }
+    ensures slots { AreSlots entries.new.items }
+    ensures err { OnErr result (entries.new.items ≡ entries.old.items) }
+{
+    let place = place_of(entries, 0, key);
+    if is_at(entries, place, key) {
+        replace_at(entries, place, (key, value));
+        return Ok(());
+    }
+    insert_at(entries, place, (key, value))
 }
 
 fn push_copy(
@@ -188,10 +261,7 @@ fn are_below(lower: &[(Slot, SlotValue)], upper: &[(Slot, SlotValue)]) -> bool
     let mut place = 0;
     for entry in upper {
         place = place_of(lower, place, entry.0);
-        if place == lower.len()
-            || !lower[place].0.is_same(entry.0)
-            || !lower[place].1.below(&entry.1)
-        {
+        if !is_met(lower, place, entry) {
             return false;
         }
     }
@@ -199,7 +269,7 @@ fn are_below(lower: &[(Slot, SlotValue)], upper: &[(Slot, SlotValue)]) -> bool
 }
 
 /// Appends the join of two values of a key, where it is known.
-fn push_joined(
+fn push_value(
     alloc: Global,
     all: &mut Vec<(Slot, SlotValue)>,
     entry: &(Slot, SlotValue),
@@ -217,6 +287,23 @@ fn push_joined(
     }
 }
 
+/// Appends what an entry and the one at a place of the others have in common.
+fn push_joined(
+    alloc: Global,
+    all: &mut Vec<(Slot, SlotValue)>,
+    entry: &(Slot, SlotValue),
+    others: &[(Slot, SlotValue)],
+    place: usize,
+) -> Result<(), NoMemory>
+    ensures { OnOk result (all.new.items ≡ all.old.items ++ common entry.now (slice_get others.now place)) }
+{
+    if is_at(others, place, entry.0) {
+        push_value(alloc, all, entry, &others[place].1)
+    } else {
+        Ok(())
+    }
+}
+
 fn join_entries(
     alloc: Global,
     left: &[(Slot, SlotValue)],
@@ -230,9 +317,7 @@ fn join_entries(
     let mut place = 0;
     for entry in left {
         place = place_of(right, place, entry.0);
-        if place < right.len() && right[place].0.is_same(entry.0) {
-            push_joined(alloc, &mut all, entry, &right[place].1)?;
-        }
+        push_joined(alloc, &mut all, entry, right, place)?;
     }
     Ok(all)
 }

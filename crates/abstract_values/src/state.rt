@@ -1,4 +1,4 @@
-ghost use Rattle.std.specs.Prelude.{◌≡◌, ◌↔◌, OnOk, OnErr, IfOk, IsTrue};
+ghost use Rattle.std.specs.Prelude.{◌≡◌, ◌↔◌, ◌&&◌, OnOk, OnErr, IfOk, IsTrue};
 ghost use Rattle.std.specs.Bool.{OnFalse};
 ghost use Rattle.abstract_values.specs.States.{Under, IsJoin, IsWellFormed, unknown_state};
 
@@ -71,8 +71,14 @@ impl State {
         self.slots = self.slots.join(&o.slots)?;
         self.mask = self.mask.join(o.mask);
         self.errno = self.errno.join(o.errno);
-        self.alone = self.alone && o.alone;
-        self.bare = self.bare && o.bare;
+        self.alone = both(self.alone, o.alone);
+        self.bare = both(self.bare, o.bare);
         Ok(true)
     }
+}
+
+fn both(a: bool, b: bool) -> bool
+    ensures { result ≡ (a && b) }
+{
+    a && b
 }

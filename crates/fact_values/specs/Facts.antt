@@ -1,6 +1,6 @@
 -- What facts hold, as functions from keys; the order of facts; the least facts that hold something besides.
 use Rattle.std.specs.Prelude.{◌≡◌, ◌≢◌, ℕ, ◌≤◌, ◌↔◌, List, [], ◌∷◌, ◌++◌, Bool, true, false, cond, ◌||◌, Option, Some, None, Contains, IsTrue, IfSome}
-use Rattle.std.specs.List.{list_any}
+use Rattle.std.specs.List.{list_any, All}
 use Rattle.std.specs.List.Sorted.{IsStrictlySortedBy}
 use Rattle.std.specs.Map.{lookup}
 use Rattle.std.specs.Option.{unwrap_or}
@@ -162,9 +162,30 @@ pub record Adds (q : Consequence) (answer : Bool) (old new : FactLists) : Type 0
 
 -- the least facts above f that hold each of some consequences
 pub record IsLeastWithAll (f : View) (list : List Consequence) (g : View) : Type 0 where
-  pub holds : (q : Consequence) → Contains list q → Holds g q
+  pub holds : All (Holds g) list
   pub above : Below f g
-  pub least : (h : View) → Below f h → ((q : Consequence) → Contains list q → Holds h q) → Below g h
+  pub least : (h : View) → Below f h → All (Holds h) list → Below g h
+
+-- states that are both there and below each other, or both not there
+abbrev pub AreStatesAlike : Option State → Option State → Type 0
+AreStatesAlike None None = Unit {0}
+AreStatesAlike (Some s) (Some t) = Under s t × Under t s
+AreStatesAlike _ _ = ⊥
+
+abbrev pub AreInstalledAlike : Option Installed → Option Installed → Type 0
+AreInstalledAlike None None = Unit {0}
+AreInstalledAlike (Some i) (Some j) = InstalledUnder i j × InstalledUnder j i
+AreInstalledAlike _ _ = ⊥
+
+-- facts that hold the same
+pub record AreAlike (f g : View) : Type 0 where
+  pub depth : f.depth ≡ g.depth
+  pub states : (c : Cell) → AreStatesAlike (f.state_at c) (g.state_at c)
+  pub points : (h : Holder) (t : Target) → f.points h t ≡ g.points h t
+  pub installed : (s : ℕ) (x : FnId) → AreInstalledAlike (f.installed_at s x) (g.installed_at s x)
+  pub threads : (x : FnId) → f.is_thread x ≡ g.is_thread x
+  pub forks : (r : Role) (x : FnId) → f.is_fork r x ≡ g.is_fork r x
+  pub stirred : (o : Obj) → f.is_stirred o ≡ g.is_stirred o
 
 -- what facts of their depth are made of
 pub record IsInBounds (f : View) : Type 0 where

@@ -11,13 +11,17 @@
 
 mod consequence;
 mod facts;
+mod laws;
 mod object;
 mod part;
 mod target_set;
+#[cfg(test)]
+mod tests;
 mod transfer;
 
 pub use consequence::{Consequence, Consequences};
 pub use facts::{Facts, Marks};
+pub use laws::{added_facts_are_least, facts_are_ordered};
 pub use object::{Holder, Obj, Target};
 pub use part::{Held, Installed, Part};
 pub use transfer::Transfer;

@@ -1,5 +1,5 @@
 -- What a change of one list makes of facts.
-use Rattle.std.proofs.Common.{◌≡◌, ℕ, ◌≤◌, refl, sym, ap, ◌∙◌, subst, List, [], ◌∷◌, Bool, true, false, cond, not, ◌||◌, ◌&&◌}
+use Rattle.std.proofs.Common.{◌≡◌, ℕ, refl, sym, ap, ◌∙◌, subst, List, [], ◌∷◌, Bool, true, false, cond, not, ◌||◌, ◌&&◌}
 use Rattle.std.specs.Prelude.{Option, Some, None, IfSome, IsTrue, ◌↔◌, Result, Ok, Err, IfOk, OnErr}
 use Rattle.std.specs.Bool.{OnFalse}
 use Rattle.std.specs.BTreeMap.{is_at}
@@ -10,27 +10,25 @@ use Rattle.std.proofs.lemmas.Map.Views.{tells_apart}
 use Rattle.base_core.specs.declared.id.FnId.{FnId}
 use Rattle.call_ctx.specs.declared.context.Role.{Role}
 use Rattle.call_ctx.specs.declared.cell.Cell.{Cell}
-use Rattle.call_ctx.specs.Contexts.{IsWithin}
 use Rattle.call_ctx.specs.Order.{cell_cmp}
 use Rattle.abstract_values.specs.declared.state.State.{State}
 use Rattle.abstract_values.specs.Sets.{IsSomeSet}
-use Rattle.abstract_values.specs.States.{Under, IsJoin, IsWellFormed}
+use Rattle.abstract_values.specs.States.{IsJoin, IsWellFormed}
 use Rattle.fact_values.specs.declared.object.Obj.{Obj}
 use Rattle.fact_values.specs.declared.object.Holder.{Holder}
 use Rattle.fact_values.specs.declared.object.Target.{Target}
 use Rattle.fact_values.specs.declared.part.Installed.{Installed}
-use Rattle.fact_values.specs.declared.part.Part.{Part}
 use Rattle.fact_values.specs.declared.part.Part.TheVariants as part
 use Rattle.fact_values.specs.declared.part.Held.TheVariants as held
 use Rattle.fact_values.specs.declared.consequence.Consequence.{Consequence}
 use Rattle.fact_values.specs.Objects.{obj_cmp, holder_cmp, target_cmp, fn_cmp, has_target, is_empty, InsertsTarget}
 use Rattle.fact_values.specs.FactLists.{FactLists}
-use Rattle.fact_values.specs.Facts.{View, view, consequence, handler_cmp, fork_cmp, has_among, InstalledUnder, Holds, Below, IsLeastWith, IsInBounds, IsPartWithin, IsFit, HasTargets, AreFacts, Adds, IsNewState, IsNewInstalled, installed_join}
+use Rattle.fact_values.specs.Facts.{View, view, consequence, handler_cmp, fork_cmp, has_among, InstalledUnder, Holds, IsLeastWith, IsInBounds, IsFit, HasTargets, AreFacts, Adds, IsNewState, IsNewInstalled, installed_join}
 use Rattle.fact_values.proofs.Exact.{exact_holder}
 use Rattle.fact_values.proofs.Signals.{installed_left, installed_right, installed_least as installed_below}
 use Rattle.abstract_values.proofs.Sets.{set_join_some}
 use Rattle.fact_values.proofs.Ascending.{sorted_one}
-use Rattle.fact_values.proofs.Holding.{below_refl, state_new, state_joined, installed_new, installed_joined, with_state, with_installed, with_target, with_thread, with_fork, with_stirred, state_bounds, installed_bounds, target_bounds, thread_bounds, fork_bounds, stirred_bounds, target_least, thread_least, fork_least, stirred_least}
+use Rattle.fact_values.proofs.Holding.{below_refl, state_new, state_joined, installed_new, installed_joined, with_state, with_installed, with_target, with_thread, with_fork, with_stirred, state_bounds, installed_bounds, target_bounds, target_least, thread_least, fork_least, stirred_least}
 
 -- the facts have changed to the least with a consequence that they did not hold
 pub adds_new : (q : Consequence) (old new : FactLists) (g : View) → new.depth ≡ old.depth → view new ≡ g → IsLeastWith (view old) q g → (Holds (view old) q → ⊥) → Adds q true old new

@@ -1,11 +1,10 @@
 -- The order of facts, and the ways in which they grow.
-use Rattle.std.proofs.Common.{◌≡◌, ℕ, ◌≤◌, refl, sym, ap, ◌∙◌, subst, List, [], ◌∷◌, Bool, true, false, cond, ◌||◌, ◌&&◌}
-use Rattle.std.specs.Prelude.{Option, Some, None, IfSome}
+use Rattle.std.proofs.Common.{◌≡◌, ℕ, ◌≤◌, refl, sym, ap, ◌∙◌, subst, [], ◌∷◌, Bool, true, false, cond, ◌||◌, ◌&&◌}
+use Rattle.std.specs.Prelude.{Some, None, IfSome}
 use Rattle.std.specs.BTreeMap.{is_at}
 use Rattle.std.specs.Ordering.{is_eq}
 use Rattle.std.specs.Cmp.{IsTotalOrder}
-use Rattle.std.proofs.lemmas.Cmp.{tied_itself, then_total, on_total}
-use Rattle.std.proofs.lemmas.Map.Lookups.{CmpEqualImpliesEq}
+use Rattle.std.proofs.lemmas.Cmp.{tied_itself}
 use Rattle.std.proofs.lemmas.Map.Views.{tells_apart}
 use Rattle.std.specs.declared.cmp.Ordering.{Ordering}
 use Rattle.base_core.specs.declared.id.FnId.{FnId}
@@ -28,7 +27,7 @@ use Rattle.fact_values.specs.declared.part.Held.{Held}
 use Rattle.fact_values.specs.declared.part.Held.TheVariants as held
 use Rattle.fact_values.specs.declared.consequence.Consequence.{Consequence}
 use Rattle.fact_values.specs.Objects.{obj_cmp, holder_cmp, target_cmp, fn_cmp, has_target}
-use Rattle.fact_values.specs.Facts.{View, consequence, handler_cmp, fork_cmp, InstalledUnder, HoldsPart, Holds, Below, HeldUnder, Weaker, IsLeastWith, IsInBounds, IsPartWithin, IsFit}
+use Rattle.fact_values.specs.Facts.{View, consequence, handler_cmp, fork_cmp, InstalledUnder, HoldsPart, Holds, Below, HeldUnder, Weaker, IsLeastWith, IsInBounds, IsPartWithin}
 use Rattle.fact_values.proofs.Exact.{exact_obj, exact_holder, exact_target, exact_fn, exact_handler, exact_fork, obj_total, holder_total, target_total, fn_total, handler_total, fork_total}
 use Rattle.fact_values.proofs.Signals.{or_left, or_right, or_least, installed_refl, installed_trans}
 

@@ -1,11 +1,9 @@
 -- Laws of the order of facts.
 use Rattle.std.proofs.Common.{◌≡◌, refl, sym, subst, List, [], ◌∷◌, Bool, true, false}
 use Rattle.std.specs.Prelude.{Option, Some, None}
-use Rattle.std.specs.List.{All}
 use Rattle.std.proofs.lemmas.List.Elements.{All-cons, All-head, All-tail, All-weaker, All-nil}
 use Rattle.abstract_values.specs.declared.state.State.{State}
 use Rattle.abstract_values.specs.States.{Under}
-use Rattle.abstract_values.proofs.Laws.{under_refl}
 use Rattle.fact_values.specs.declared.part.Installed.{Installed}
 use Rattle.fact_values.specs.declared.consequence.Consequence.{Consequence}
 use Rattle.fact_values.specs.Facts.{View, InstalledUnder, Holds, Below, AreAlike, AreStatesAlike, AreInstalledAlike, IsLeastWith, IsLeastWithAll}

@@ -1,8 +1,6 @@
 -- The order of installed handlers.
 use Rattle.std.proofs.Common.{◌≡◌, Bool, true, false, refl, ◌||◌}
-use Rattle.abstract_values.specs.declared.signal_set.AbsSet.{AbsSet}
-use Rattle.abstract_values.specs.Sets.{IsSomeSet}
-use Rattle.abstract_values.proofs.Sets.{set_refl, set_trans, set_join_left, set_join_right, set_join_least, set_join_some}
+use Rattle.abstract_values.proofs.Sets.{set_refl, set_trans, set_join_left, set_join_right, set_join_least}
 use Rattle.fact_values.specs.declared.part.Installed.{Installed}
 use Rattle.fact_values.specs.Facts.{InstalledUnder, installed_join}
 

@@ -1,14 +1,13 @@
 -- Objects, holders and targets: their order, and how many sites their contexts keep.
 use Rattle.std.specs.Prelude.{◌≡◌, ℕ, List, [], ◌∷◌, Bool, true, false, not, ◌||◌}
 use Rattle.std.specs.Bool.{OnFalse}
-use Rattle.std.specs.Ordering.{nat_cmp, ordering_then}
+use Rattle.std.specs.Ordering.{nat_cmp}
 use Rattle.std.specs.List.{list_any}
 use Rattle.std.specs.BTreeMap.{is_at}
 use Rattle.std.specs.declared.cmp.Ordering.{Ordering}
 use Rattle.base_core.specs.declared.id.FnId.{FnId}
-use Rattle.call_ctx.specs.declared.context.Role.{Role}
 use Rattle.call_ctx.specs.Contexts.{IsWithin}
-use Rattle.call_ctx.specs.Order.{role_cmp, ctx_numbers}
+use Rattle.call_ctx.specs.Order.{ctx_numbers}
 use Rattle.call_ctx.specs.Contexts.{base_context}
 use Rattle.call_ctx.specs.declared.context.Side.TheVariants.{Free}
 use Rattle.fact_values.specs.declared.object.Obj.{Obj}

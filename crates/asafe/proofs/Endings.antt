@@ -1,12 +1,11 @@
 -- What the command's ending says of the text, of the status and of what is printed.
-use Rattle.std.proofs.Common.{◌≡◌, ◌∙◌, ap, refl, sym, subst, ℕ, ◌<◌, ◌≤◌, ◌⊎◌, inl, inr, Bool, List, [], ◌∷◌, ◌++◌, length, Option, Some, None, Ok, Err, Result, string_bytes, unwrap_or, arith}
-use Rattle.base_core.specs.Contents.{Contents, text_of, Lacks}
-use Rattle.base_core.specs.Count.{Rose}
+use Rattle.std.proofs.Common.{◌≡◌, ◌∙◌, ap, refl, sym, subst, ℕ, ◌<◌, ◌≤◌, inl, inr, Bool, List, length, Option, Some, None, Ok, Err, Result, string_bytes, unwrap_or, arith}
+use Rattle.base_core.specs.Contents.{Contents, text_of}
 use Rattle.base_core.specs.Limits.{most_bytes}
-use Rattle.base_core.specs.Taken.{appended}
 use Rattle.base_core.specs.declared.place.Place.{Place}
 use Rattle.base_core.specs.declared.token.Token.{Token}
 use Rattle.c_lexer.specs.FaultFile.{fault_file, file_named}
+use Rattle.c_lexer.specs.Faults.{place_of, kind_of}
 use Rattle.c_lexer.specs.Lexis.{Gives, Lexis, lexis}
 use Rattle.c_lexer.specs.declared.fault.LexFault.{LexFault}
 use Rattle.c_lexer.specs.declared.fault.LexFault.TheVariants as lex
@@ -18,14 +17,12 @@ use Rattle.asafe.specs.declared.ending.Ending.{Ending}
 use Rattle.asafe.specs.declared.ending.Ending.TheVariants as ending
 use Rattle.asafe.specs.declared.token_fault.TokenFault.{TokenFault}
 use Rattle.asafe.specs.declared.token_fault.TokenFault.TheVariants as token
-use Rattle.asafe.specs.Answers.{Ends, FileEnds, TableEnds, LaterEnds, UsageEnds, IsUnread, Says, TellsFault, TextEnds}
-use Rattle.asafe.specs.Ending.{ending_status, ending_text}
-use Rattle.asafe.specs.Ends.{IsUsageOrFault, IsYesOrFault, IsNotYetOrNoMemory, IsReadFaultOrFault, IsTooLargeOrFault, IsDecidedOrFault}
-use Rattle.asafe.specs.FaultLine.{IsFaultLine, IsKind, fault_line, kind_of, place_of, place_at, token_fault_kind, token_fault_line}
-use Rattle.asafe.specs.Lines.{report, table_text, usage_line}
-use Rattle.asafe.specs.Printing.{CertifyPrints, IsPrintedOf, JobPrints, LaterPrints, Prints, PutsLine, PutsPart, TablePrints, UsagePrints}
-use Rattle.asafe.specs.Text.{HasFault, HasTokens, IsInSubset, IsTokenFault, IsShort, IsSmall, IsTooLarge, PassesLimits}
-use Rattle.asafe.specs.Words.{Certifies, HasText, IsLater, LacksFile, certified}
+use Rattle.asafe.specs.Answers.{Ends, FileEnds, Says, TellsFault}
+use Rattle.asafe.specs.Ending.{ending_status}
+use Rattle.asafe.specs.Ends.{IsTooLargeOrFault, IsDecidedOrFault}
+use Rattle.asafe.specs.FaultLine.{IsFaultLine, IsKind, fault_line, place_at, token_fault_kind, token_fault_line}
+use Rattle.asafe.specs.Text.{HasFault, HasTokens, IsInSubset, IsTokenFault, IsShort, IsSmall, IsTooLarge}
+use Rattle.asafe.specs.Words.{HasText, certified}
 use Rattle.asafe.proofs.Texts.{tokens_only, all_fit, none_passes}
 
 -- ---- the lines of faults

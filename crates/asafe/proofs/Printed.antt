@@ -6,7 +6,7 @@ use Rattle.base_core.specs.Count.{Rose}
 use Rattle.base_core.specs.Taken.{appended}
 use Rattle.command_words.specs.Jobs.{Asked, certify, check, show, table, generate}
 use Rattle.asafe.specs.declared.status.Status.{Status}
-use Rattle.asafe.specs.declared.status.Status.TheVariants.{Yes, Refused, Usage, Text, ReadFault, WriteFault, NoMemory, TooLarge, NotYet}
+use Rattle.asafe.specs.declared.status.Status.TheVariants.{Yes, Usage, Text, ReadFault, WriteFault, NoMemory, NotYet}
 use Rattle.asafe.specs.declared.ending.Ending.{Ending}
 use Rattle.asafe.specs.declared.ending.Ending.TheVariants as ending
 use Rattle.asafe.specs.Answers.{Ends, FileEnds, TableEnds, LaterEnds, UsageEnds, IsUnread}
@@ -14,7 +14,7 @@ use Rattle.asafe.specs.Ending.{ending_status, ending_text}
 use Rattle.asafe.specs.Ends.{IsUsageOrFault, IsYesOrFault, IsNotYetOrNoMemory, IsReadFaultOrFault}
 use Rattle.asafe.specs.Lines.{report, table_text, usage_line}
 use Rattle.asafe.specs.Printing.{CertifyPrints, IsPrintedOf, JobPrints, LaterPrints, Prints, PutsLine, PutsPart, TablePrints, UsagePrints}
-use Rattle.asafe.specs.Words.{Certifies, HasText, IsLater, LacksFile, certified}
+use Rattle.asafe.specs.Words.{HasText, IsLater, LacksFile, certified}
 use Rattle.asafe.proofs.Endings.{ends_file}
 
 no_part : (before after : Option (List ℕ)) → PutsPart before after [] → ⊥

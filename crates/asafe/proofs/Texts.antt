@@ -12,14 +12,14 @@ use Rattle.flat_programs.specs.Condition.{are_safe}
 use Rattle.flat_programs.specs.FlatTree.{FlatTree}
 use Rattle.flat_programs.specs.FlatShape.{IsFlat}
 use Rattle.flat_programs.specs.FlatSpelling as flat
-use Rattle.flat_programs.specs.WholeProgram.{IsFlatProgram, IsWhole, program_of}
+use Rattle.flat_programs.specs.WholeProgram.{IsFlatProgram, program_of}
 use Rattle.flat_programs.proofs.Conditions.{accepted, not_accepted}
 use Rattle.flat_programs.proofs.NoBreach.{sound}
 use Rattle.flat_programs.proofs.Whole.{flat_is_whole}
 use Rattle.asafe.specs.declared.token_fault.TokenFault.{TokenFault}
 use Rattle.asafe.specs.declared.token_fault.TokenFault.TheVariants as fault
 use Rattle.asafe.specs.Deciding.{IsProgram}
-use Rattle.asafe.specs.Text.{HasTokens, Spells, SpellsOnly, KeepsTheRules, IsRefusedText, IsNotFlat, IsTokenFault}
+use Rattle.asafe.specs.Text.{HasTokens, SpellsOnly, KeepsTheRules, IsRefusedText, IsNotFlat, IsTokenFault}
 
 same_ok : (a b : Lexis) → ◌≡◌ {A = Result Lexis LexFault} (Ok a) (Ok b) → a ≡ b
 same_ok a b same = cc

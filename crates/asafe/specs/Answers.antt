@@ -1,8 +1,9 @@
 -- What each ending of the command says of the job, the shelf and the text.
-use Rattle.std.specs.Prelude.{◌≡◌, ◌⊎◌, ℕ, List, Bool, Option, Some, None, Ok, Err, string_bytes}
+use Rattle.std.specs.Prelude.{◌≡◌, ◌⊎◌, ℕ, List, Bool, Option, Some, None, Err, string_bytes}
 use Rattle.base_core.specs.Contents.{Contents, text_of, Lacks}
 use Rattle.base_core.specs.Count.{Rose}
 use Rattle.base_core.specs.declared.place.Place.{Place}
+use Rattle.c_lexer.specs.Faults.{place_of, kind_of}
 use Rattle.c_lexer.specs.Lexis.{Lexis, lexis}
 use Rattle.c_lexer.specs.declared.fault.LexFault.{LexFault}
 use Rattle.command_words.specs.Jobs.{Asked, certify, table}
@@ -11,10 +12,9 @@ use Rattle.asafe.specs.declared.status.Status.{Status}
 use Rattle.asafe.specs.declared.status.Status.TheVariants as status
 use Rattle.asafe.specs.declared.ending.Ending.{Ending}
 use Rattle.asafe.specs.declared.ending.Ending.TheVariants.{Accepted, Refused, Listed, Usage, Faulty, Unread, NoMemory, TooLarge, NotYet}
-use Rattle.asafe.specs.FaultLine.{place_of, kind_of, fault_line, token_fault_line, IsFaultLine}
+use Rattle.asafe.specs.FaultLine.{fault_line, token_fault_line, IsFaultLine}
 use Rattle.asafe.specs.Lines.{cannot_read_line, too_large_line, table_text}
 use Rattle.asafe.specs.Text.{KeepsTheRules, IsRefusedText, IsNotFlat, HasFault, HasTokenFault, PassesLimits, IsTooLarge, IsShort}
-use Rattle.asafe.specs.Words.{IsLater}
 
 -- the text, read from this file, has a fault of the lexis, which the line tells
 pub record TellsLexFault (file text line : List ℕ) : Type 0 where

@@ -1,5 +1,4 @@
 -- Which statuses may come where.
-use Rattle.std.specs.Prelude.{ℕ, List}
 use Rattle.asafe.specs.declared.status.Status.{Status}
 use Rattle.asafe.specs.declared.status.Status.TheVariants.{Yes, Refused, Usage, ReadFault, WriteFault, NoMemory, TooLarge, NotYet}
 

@@ -1,29 +1,10 @@
 -- The lines that are printed for a text that is not in the subset.
-use Rattle.std.specs.Prelude.{◌≡◌, ◌⊎◌, ℕ, Option, Some, None, List, [], ◌∷◌, ◌++◌, slice_get, unwrap_or, codes, decimal}
+use Rattle.std.specs.Prelude.{◌≡◌, ◌⊎◌, ℕ, List, [], ◌∷◌, ◌++◌, slice_get, unwrap_or, codes, decimal}
 use Rattle.base_core.specs.declared.place.Place.{Place}
 use Rattle.c_lexer.specs.FaultFile.{fault_file, file_named}
 use Rattle.c_lexer.specs.Lexis.{Lexis}
-use Rattle.c_lexer.specs.declared.fault.LexFault.{LexFault}
-use Rattle.c_lexer.specs.declared.fault.LexFault.TheVariants.{BadByte, OpenComment, OpenLiteral, NumberTooLarge, Directive, NoMemory}
 use Rattle.asafe.specs.declared.token_fault.TokenFault.{TokenFault}
 use Rattle.asafe.specs.declared.token_fault.TokenFault.TheVariants.{Syntax, Nested}
-
--- the place of a fault; want of memory has none
-abbrev pub place_of : LexFault → Option Place
-place_of (BadByte place) = Some place
-place_of (OpenComment place) = Some place
-place_of (OpenLiteral place) = Some place
-place_of (NumberTooLarge place) = Some place
-place_of (Directive place) = Some place
-place_of NoMemory = None
-
-abbrev pub kind_of : LexFault → List ℕ
-kind_of (BadByte place) = codes "BadByte"
-kind_of (OpenComment place) = codes "OpenComment"
-kind_of (OpenLiteral place) = codes "OpenLiteral"
-kind_of (NumberTooLarge place) = codes "NumberTooLarge"
-kind_of (Directive place) = codes "Directive"
-kind_of NoMemory = codes "NoMemory"
 
 abbrev pub token_fault_kind : TokenFault → List ℕ
 token_fault_kind Syntax = codes "Syntax"

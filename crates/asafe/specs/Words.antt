@@ -1,7 +1,7 @@
 -- What the job that the words ask for reads.
-use Rattle.std.specs.Prelude.{◌≡◌, ℕ, List, Bool, Option, Some, None, option_map}
+use Rattle.std.specs.Prelude.{◌≡◌, ℕ, List, Bool, Option, Some, None}
 use Rattle.base_core.specs.Contents.{Contents, text_of, Lacks}
-use Rattle.command_words.specs.Jobs.{Asked, certify, check, show, table, generate}
+use Rattle.command_words.specs.Jobs.{Asked, certify, table}
 
 -- the file to certify, and whether the report is JSON
 abbrev pub certified : Option Asked → Option (List ℕ × Bool)

@@ -17,7 +17,7 @@ ghost use Rattle.asafe.specs.Ends.{IsUsageOrFault, IsYesOrFault, IsNotYetOrNoMem
 use crate::Status;
 use crate::decision::{Decision, decide};
 use crate::ending::Ending;
-use crate::fault_line::{fault_line, kind_of, place_of, token_fault_line};
+use crate::fault_line::{fault_line, token_fault_line};
 use crate::lines::{cannot_read_line, too_large_line};
 use crate::put::put_all;
 use base_core::{MOST_BYTES, NoMemory, ReadError, Shelf, Sink};
@@ -157,8 +157,8 @@ fn fault_ending(alloc: Global, file: &str, text: &[u8], fault: LexFault) -> Endi
     requires { length text.now ≤ most_bytes }
     ensures { (json : Bool) → Gives (Err fault) (lexis text.now) → TextEnds file.now json text.now result }
 {
-    match place_of(fault) {
-        Some(place) => match fault_line(alloc, file, text, place, kind_of(fault)) {
+    match fault.place() {
+        Some(place) => match fault_line(alloc, file, text, place, fault.kind()) {
             Ok(line) => Ending::Faulty(line),
             Err(_) => Ending::NoMemory,
         },

@@ -1,39 +1,11 @@
 ghost use Rattle.std.specs.Prelude.{◌≡◌, ◌≤◌, length, string_bytes, IfOk};
 ghost use Rattle.base_core.specs.Limits.{most_bytes};
-ghost use Rattle.asafe.specs.FaultLine.{place_of, kind_of, token_fault_kind, line_at, fault_line, token_fault_line};
+ghost use Rattle.asafe.specs.FaultLine.{token_fault_kind, line_at, fault_line, token_fault_line};
 
 use crate::token_fault::TokenFault;
 use base_core::{NoMemory, Place};
-use c_lexer::{LexFault, Tokens, fault_file};
+use c_lexer::{Tokens, fault_file};
 use std::alloc::Global;
-
-/// Where the fault lies; None exactly at want of memory.
-pub(crate) fn place_of(fault: LexFault) -> Option<Place>
-    ensures { result ≡ place_of fault }
-{
-    match fault {
-        LexFault::BadByte(place)
-        | LexFault::OpenComment(place)
-        | LexFault::OpenLiteral(place)
-        | LexFault::NumberTooLarge(place)
-        | LexFault::Directive(place) => Some(place),
-        LexFault::NoMemory => None,
-    }
-}
-
-/// The word for its kind.
-pub(crate) fn kind_of(fault: LexFault) -> &'static str
-    ensures { result.now ≡ kind_of fault }
-{
-    match fault {
-        LexFault::BadByte(_) => "BadByte",
-        LexFault::OpenComment(_) => "OpenComment",
-        LexFault::OpenLiteral(_) => "OpenLiteral",
-        LexFault::NumberTooLarge(_) => "NumberTooLarge",
-        LexFault::Directive(_) => "Directive",
-        LexFault::NoMemory => "NoMemory",
-    }
-}
 
 fn token_fault_kind(fault: TokenFault) -> &'static str
     ensures { result.now ≡ token_fault_kind fault }

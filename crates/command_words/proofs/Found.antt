@@ -1,12 +1,12 @@
 -- From what `clap` says of its matches to what is found in their rows.
-use Rattle.std.proofs.Common.{◌≡◌, ◌∙◌, refl, sym, subst, ap, List, [], ◌∷◌, Option, Some, None, Bool, true, false, unwrap_or, ◌⊎◌, inl, inr}
+use Rattle.std.proofs.Common.{◌≡◌, ◌∙◌, refl, sym, subst, ap, List, [], ◌∷◌, Option, Some, None, Bool, true, false, unwrap_or, inl, inr}
 use Rattle.std.specs.Option.{option_map_or}
 use Rattle.clap.specs.Words.{App, HasKind, Kinds, Row, Text, fault_of, is_simple, is_simple_and_free, kind_of, matches_of}
 use Rattle.clap.specs.declared.error.Error.{Error}
 use Rattle.clap.specs.declared.error.kind.ErrorKind.TheVariants.{OutOfMemory}
 use Rattle.clap.proofs.OnLiterals.{clap_on_literals}
 use Rattle.command_words.specs.Command.{command_app}
-use Rattle.command_words.specs.Given.{Found, found_in}
+use Rattle.command_words.specs.Given.{found_in}
 use Rattle.command_words.specs.Jobs.{Asked}
 use Rattle.command_words.specs.Table.{job_of}
 use Rattle.command_words.specs.Words.{asked, unless_refused}

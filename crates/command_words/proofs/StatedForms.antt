@@ -1,13 +1,13 @@
 -- Words of the stated form ask for the job that they state.
-use Rattle.std.proofs.Common.{◌≡◌, ◌∙◌, refl, sym, ap, ap₂, ℕ, Bool, true, false, List, [], ◌∷◌, ◌++◌, Option, Some, None, is_some, option_map, unwrap_or, codes}
+use Rattle.std.proofs.Common.{◌≡◌, ◌∙◌, refl, sym, ap, ap₂, Bool, true, false, List, [], ◌∷◌, ◌++◌, Option, Some, None, is_some, option_map, unwrap_or, codes}
 use Rattle.std.specs.Prelude.{fold}
 use Rattle.std.specs.Option.{option_map_or}
 use Rattle.std.proofs.lemmas.Bool.{eqb-false}
 use Rattle.std.proofs.lemmas.List.{append-nil}
-use Rattle.clap.specs.Walk.{Row, Text, Waiting, Walk, idle, option, positional, arg_by_id, finished, has_row, nothing_held, settled, settled_rows, used_by_id, walk, walked}
+use Rattle.clap.specs.Walk.{Row, Text, Waiting, Walk, idle, option, positional, arg_by_id, finished, has_row, settled, settled_rows, used_by_id, walked}
 use Rattle.clap.specs.Simple.{App, built, entered}
 use Rattle.clap.specs.Kinds.{Kinds, or_else}
-use Rattle.clap.specs.Faults.{check_fault, defaults_fault, entered_fault, settle_fault, turn_fault, use_fault, walk_fault}
+use Rattle.clap.specs.Faults.{check_fault, defaults_fault, entered_fault, settle_fault, use_fault, walk_fault}
 use Rattle.clap.proofs.OnLiterals.{clap_on_literals}
 use Rattle.base_core.specs.declared.rules.Rules.{Rules}
 use Rattle.base_core.specs.declared.rules.Rules.TheVariants.{Usual, Strict, Later}
@@ -17,7 +17,7 @@ use Rattle.command_words.specs.Command.{command_app}
 use Rattle.command_words.specs.Given.{found_in}
 use Rattle.command_words.specs.Jobs as jobs
 use Rattle.command_words.specs.Jobs.{Asked}
-use Rattle.command_words.specs.Stated.{IsPlain, IsPlainIfGiven, Stated, StatedFormsAreAsked, IsOfForm, certify, check, show, table, generate, depth_word, json_words, option_words, rules_word, stated_job, stated_words}
+use Rattle.command_words.specs.Stated.{IsPlain, IsPlainIfGiven, StatedFormsAreAsked, certify, check, show, table, generate, depth_word, json_words, option_words, rules_word}
 use Rattle.command_words.specs.Table.{certify_with, job_of}
 use Rattle.command_words.specs.Values.{depth_value, number_of, rules_value}
 use Rattle.command_words.specs.Words.{asked, unless_refused}

@@ -1,14 +1,13 @@
 -- How `clap` walks over words of the stated form.
-use Rattle.std.proofs.Common.{◌≡◌, ◌∙◌, refl, sym, ap, ℕ, Bool, true, false, List, [], ◌∷◌, ◌++◌, Option, Some, None, cond, eqb, codes, append_assoc}
+use Rattle.std.proofs.Common.{◌≡◌, ◌∙◌, refl, ap, ℕ, false, List, [], ◌∷◌, ◌++◌, Option, None, cond, eqb, append_assoc}
 use Rattle.std.specs.Prelude.{fold}
 use Rattle.std.specs.Str.{bytes_eq}
 use Rattle.std.proofs.lemmas.Bool.{ne_eqb}
 use Rattle.clap.specs.Lexer.{long_of, short_of}
-use Rattle.clap.specs.Walk.{Held, Rule, Row, Text, Waiting, Walk, Step, idle, option, positional, trailing, after_step, has_row, long_or_other, plain_word, settled_rows, short_or_plain, used_by_id, arg_by_id, walked, word_met}
+use Rattle.clap.specs.Walk.{Held, Rule, Row, Text, Waiting, Walk, Step, idle, option, positional, trailing, after_step, long_or_other, plain_word, short_or_plain, walked, word_met}
 use Rattle.clap.specs.Simple.{Shape, built}
 use Rattle.clap.specs.Kinds.{Kinds, or_else}
-use Rattle.clap.specs.Faults.{flag_word_fault, settle_fault, step_fault, turn_fault, walk_fault, word_fault}
-use Rattle.clap.proofs.OnLiterals.{clap_on_literals}
+use Rattle.clap.specs.Faults.{flag_word_fault, step_fault, turn_fault, walk_fault, word_fault}
 use Rattle.command_words.specs.Command.{command_app}
 use Rattle.command_words.specs.Stated.{IsPlain}
 

@@ -1,6 +1,6 @@
 -- The command as `clap` sees it.
-use Rattle.std.specs.Prelude.{List, [], ◌∷◌, Option, Some, true, codes}
-use Rattle.clap.specs.Words.{App, Rule, Shape, Text, new_app, new_rule, with_rule}
+use Rattle.std.specs.Prelude.{Some, true, codes}
+use Rattle.clap.specs.Words.{App, Rule, Text, new_app, new_rule, with_rule}
 use Rattle.clap.specs.declared.builder.action.ArgAction.TheVariants.{Append, SetTrue}
 
 abbrev pub job_argument : Rule

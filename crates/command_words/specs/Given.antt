@@ -1,5 +1,5 @@
 -- What `clap` found, argument by argument.
-use Rattle.std.specs.Prelude.{◌≡◌, List, [], Option, Some, None, Bool, true, false, codes, unwrap_or, map, option_map}
+use Rattle.std.specs.Prelude.{List, [], Option, Bool, false, codes, unwrap_or, map, option_map}
 use Rattle.std.specs.Str.{bytes_eq}
 use Rattle.std.specs.Option.{option_map_or}
 use Rattle.clap.specs.Words.{Row, Text, all_of, first_of}

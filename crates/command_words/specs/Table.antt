@@ -1,5 +1,5 @@
 -- The table of jobs: the names and options of each.
-use Rattle.std.specs.Prelude.{ℕ, Bool, true, false, not, ◌&&◌, List, [], ◌∷◌, Option, Some, None, if◌then◌else◌, is_some, codes, option_map, option_and_then}
+use Rattle.std.specs.Prelude.{Bool, not, ◌&&◌, List, [], ◌∷◌, Option, Some, None, if◌then◌else◌, is_some, codes, option_map, option_and_then}
 use Rattle.std.specs.Str.{bytes_eq}
 use Rattle.base_core.specs.declared.rules.Rules.{Rules}
 use Rattle.clap.specs.Words.{Text}

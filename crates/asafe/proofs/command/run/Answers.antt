@@ -1,4 +1,4 @@
-use Rattle.std.proofs.Common.{◌≡◌, ◌∙◌, ap, subst, sym}
+use Rattle.std.proofs.Common.{◌∙◌, ap, subst, sym}
 use Rattle.base_core.specs.Taken.{appended}
 use Rattle.asafe.specs.declared.status.Status.TheVariants.{Yes, Refused, Text, TooLarge, NotYet}
 use Rattle.asafe.specs.Ends.{IsDecidedOrFault, IsNotYetOrNoMemory, IsReadFaultOrFault, IsTooLargeOrFault, IsUsageOrFault, IsYesOrFault}

@@ -1,11 +1,11 @@
-use Rattle.std.proofs.Common.{rules, ap, ap₂, codes, false, true, Some, ◌≡◌, ◌∙◌}
+use Rattle.std.proofs.Common.{rules, ap, ap₂, codes, true, Some, ◌≡◌, ◌∙◌}
 use Rattle.std.proofs.lemmas.Result.{IfOk-weaker}
 use Rattle.clap.specs.Walk.{Rule, Text, rule_of}
 use Rattle.clap.specs.declared.builder.arg.Arg.{Arg}
 use Rattle.clap.specs.declared.builder.command.Command.{Command}
 use Rattle.clap.specs.declared.builder.command.Command.TheOpen.{Command-F}
 use Rattle.clap.specs.declared.builder.action.ArgAction.TheVariants.{Append, SetTrue}
-use Rattle.clap.specs.Simple.{App, Shape, app_of, app_of_fields, new_rule, with_rule}
+use Rattle.clap.specs.Simple.{App, app_of, app_of_fields, new_rule, with_rule}
 use Rattle.command_words.specs.Command.{bare_app, flag, names_argument, option}
 use Rattle.command_words.proofs.clap_command.clap_command.Goals as goal
 

@@ -1,4 +1,4 @@
-use Rattle.std.proofs.Common.{◌≡◌, ◌∙◌, [], ap, codes, unwrap_or}
+use Rattle.std.proofs.Common.{◌∙◌, [], ap, codes, unwrap_or}
 use Rattle.clap.specs.Words.{found_of}
 use Rattle.clap.proofs.WalkLemmas.{first_value-rows, raw_values-rows}
 use Rattle.command_words.proofs.given.given_in.Goals as goal

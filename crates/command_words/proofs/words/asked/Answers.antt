@@ -1,4 +1,4 @@
-use Rattle.std.proofs.Common.{◌≡◌, ◌∙◌, ap, map, option_map, string_bytes}
+use Rattle.std.proofs.Common.{◌∙◌, ap, map, option_map, string_bytes}
 use Rattle.clap.specs.Words.{app_of, found_of, rows_of}
 use Rattle.command_words.specs.Jobs.{asked_by}
 use Rattle.command_words.specs.Table.{job_of}

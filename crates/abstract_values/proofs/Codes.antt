@@ -1,12 +1,12 @@
 -- Lists of codes that rise: what is in them, with a code more, and within one another.
-use Rattle.std.proofs.Common.{inl, inr, ◌≡◌, ℕ, zero, suc, ◌+◌, ◌<◌, ◌≤◌, ◌^◌, List, [], ◌∷◌, ◌++◌, length, take, drop, get_or, refl, ap, sym, zero-add, ◌∙◌, subst, arith, Bool, true, false, cond, nat_eq, nat_lt, ◌==◌, ◌||◌}
-use Rattle.std.specs.Prelude.{IsTrue, ◌↔◌, not, Option, None, Some, IfSome, slice_get}
+use Rattle.std.proofs.Common.{inl, inr, ◌≡◌, ℕ, zero, suc, ◌+◌, ◌<◌, ◌≤◌, ◌^◌, List, [], ◌∷◌, length, drop, get_or, refl, ap, sym, zero-add, ◌∙◌, subst, arith, Bool, true, false, cond, nat_lt, ◌==◌, ◌||◌}
+use Rattle.std.specs.Prelude.{◌↔◌, Option, None, Some, IfSome, slice_get}
 use Rattle.std.specs.List.{insert}
-use Rattle.std.proofs.lemmas.Bool.{eqb-true, eqb-false, cases_lt, false≢true}
+use Rattle.std.proofs.lemmas.Bool.{eqb-true, cases_lt}
 use Rattle.std.proofs.lemmas.Bool.Decides.{nat_tests}
 use Rattle.abstract_values.specs.Places.{leading}
 use Rattle.abstract_values.specs.Codes.{AreCodes, has_code, with_code, codes_join, CodesUnder}
-use Rattle.abstract_values.proofs.Places.{behind, behind_more, Met, past, Walk}
+use Rattle.abstract_values.proofs.Places.{behind_more, Met, past, Walk}
 
 abbrev pub lower : ℕ → ℕ → Bool
 lower a b = nat_lt a b

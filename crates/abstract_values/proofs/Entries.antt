@@ -1,5 +1,5 @@
 -- Slots as a map: look-ups, changes, walks and joins.
-use Rattle.std.proofs.Common.{◌≡◌, ℕ, suc, ◌<◌, List, [], ◌∷◌, ◌++◌, length, drop, set, refl, sym, ap, zero-add, get_or, ◌+◌, ◌∙◌, subst, arith, Bool, true, false, cond}
+use Rattle.std.proofs.Common.{◌≡◌, ℕ, suc, ◌<◌, List, [], ◌∷◌, length, drop, set, refl, sym, ap, zero-add, get_or, ◌+◌, ◌∙◌, subst, Bool, true, false, cond}
 use Rattle.std.specs.Prelude.{Option, Some, None, slice_get}
 use Rattle.std.specs.List.{insert, remove}
 use Rattle.std.proofs.lemmas.Option.{slice_get_read}

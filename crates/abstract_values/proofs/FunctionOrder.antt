@@ -1,5 +1,5 @@
 -- The order of abstract functions is one, and the join is the least value above both.
-use Rattle.std.proofs.Common.{◌≡◌, refl, ap, ℕ, List, [], ◌∷◌, Bool, true, false}
+use Rattle.std.proofs.Common.{◌≡◌, refl, ap, ℕ, List, [], ◌∷◌, true}
 use Rattle.abstract_values.specs.declared.functions.AbsFns.{AbsFns}
 use Rattle.abstract_values.specs.declared.functions.AbsFns.TheVariants.{Any, Among}
 use Rattle.abstract_values.specs.Codes.{codes_join}

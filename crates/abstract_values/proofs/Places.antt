@@ -1,6 +1,6 @@
 -- Walks along two lists that rise: for each element of the first, the second is passed over up to where it stands.
 use Rattle.std.proofs.Common.{◌≡◌, ℕ, zero, suc, ◌+◌, ◌≤◌, List, [], ◌∷◌, length, drop, refl, ap, sym, ◌∙◌, subst, arith, Bool, true, false, cond}
-use Rattle.std.specs.Prelude.{Option, Some, None, IsSomeAnd, slice_get}
+use Rattle.std.specs.Prelude.{Option, IsSomeAnd, slice_get}
 use Rattle.std.proofs.lemmas.List.{drop-drop}
 use Rattle.abstract_values.specs.Places.{leading}
 

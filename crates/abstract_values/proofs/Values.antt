@@ -1,5 +1,5 @@
 -- The order of values of slots is one, and the join of two slots is the least slot above both.
-use Rattle.std.proofs.Common.{◌≡◌, refl, sym, ap, ◌∙◌, Bool, true, false, cond, ◌&&◌}
+use Rattle.std.proofs.Common.{◌≡◌, refl, ap, Bool, true, false, cond, ◌&&◌}
 use Rattle.std.specs.Prelude.{Option, Some, None, IfSome}
 use Rattle.std.proofs.lemmas.Bool.{and_parts, and_from}
 use Rattle.abstract_values.specs.declared.slot_value.SlotValue.{SlotValue}
@@ -7,7 +7,7 @@ use Rattle.abstract_values.specs.declared.slot_value.SlotValue.TheVariants.{Numb
 use Rattle.abstract_values.specs.Numbers.{is_any_int}
 use Rattle.abstract_values.specs.Sets.{is_any_set}
 use Rattle.abstract_values.specs.Functions.{is_any_fns}
-use Rattle.abstract_values.specs.Values.{ValueUnder, value_join, is_unknown, known, IsFormed, HasRisingCodes, IsKept}
+use Rattle.abstract_values.specs.Values.{ValueUnder, value_join, is_unknown, known, IsFormed, HasRisingCodes}
 use Rattle.abstract_values.specs.Entries.{SlotUnder}
 use Rattle.abstract_values.proofs.Numbers.{int_refl, int_trans, int_antisymmetric, int_join_left, int_join_right, int_join_least, int_any_up}
 use Rattle.abstract_values.proofs.Sets.{set_refl, set_trans, set_antisymmetric, set_join_left, set_join_right, set_join_least, set_any_up, set_join_some}

@@ -8,12 +8,12 @@ use Rattle.abstract_values.specs.Places.{leading}
 use Rattle.abstract_values.specs.declared.slot.Slot.{Slot}
 use Rattle.abstract_values.specs.declared.slot_value.SlotValue.{SlotValue}
 use Rattle.abstract_values.specs.Keys.{slot_cmp, is_before, is_same}
-use Rattle.abstract_values.specs.Values.{ValueUnder, value_join, is_unknown, known, IsFormed, HasRisingCodes, IsKept}
+use Rattle.abstract_values.specs.Values.{ValueUnder, value_join, is_unknown, known, HasRisingCodes, IsKept}
 use Rattle.abstract_values.specs.Entries.{Entry, slot_at, AreSlotsAbove, AreSlots, SlotUnder, SlotsUnder, HasKey, IsMet, entry_of, common, joined_entry, slots_join}
 use Rattle.abstract_values.proofs.Places.{behind_more, past, Walk, first_of_drop}
 use Rattle.abstract_values.proofs.Keys.{same_slot, self_same, before_less, before_trans, not_same, not_same_back, behind_is}
 use Rattle.abstract_values.proofs.Values.{value_antisymmetric, slot_join, known_is, value_join_codes}
-use Rattle.abstract_values.proofs.Entries.{earlier, meets, slots_above, slots_tail, absent_above, slot_here, slot_later, slot_first}
+use Rattle.abstract_values.proofs.Entries.{earlier, meets, slots_above, slots_tail, absent_above, slot_later, slot_first}
 
 -- what is left of the entries behind those before an entry's key
 abbrev pub rest : Entry → List Entry → List Entry

@@ -1,5 +1,5 @@
 -- The order of abstract integers: whatever the lower one stands for, the upper one stands for.
-use Rattle.std.specs.Prelude.{◌≡◌, ℤ, pos, Bool, true, false, cond, not, ◌&&◌}
+use Rattle.std.specs.Prelude.{◌≡◌, pos, Bool, true, false, cond, not, ◌&&◌}
 use Rattle.std.specs.Ordering.{int_eq}
 use Rattle.abstract_values.specs.declared.number.AbsInt.{AbsInt}
 use Rattle.abstract_values.specs.declared.number.AbsInt.TheVariants.{Any, NotZero, Exactly, EntryErrno}

@@ -1,5 +1,5 @@
 -- The order of states.
-use Rattle.std.specs.Prelude.{◌≡◌, IsTrue, false, [], IfSome}
+use Rattle.std.specs.Prelude.{IsTrue, false, [], IfSome}
 use Rattle.abstract_values.specs.declared.number.AbsInt.TheVariants.{Any}
 use Rattle.abstract_values.specs.declared.slot.Slot.{Slot}
 use Rattle.abstract_values.specs.declared.state.State.{State}

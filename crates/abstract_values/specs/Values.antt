@@ -1,5 +1,5 @@
 -- The order of the values of slots. Values of two forms aren't ordered.
-use Rattle.std.specs.Prelude.{Bool, true, false, cond, ◌&&◌, ◌≡◌, Option, Some, None}
+use Rattle.std.specs.Prelude.{Bool, false, cond, ◌&&◌, ◌≡◌, Option, Some, None}
 use Rattle.abstract_values.specs.declared.number.AbsInt.TheVariants as int
 use Rattle.abstract_values.specs.declared.slot_value.SlotValue.{SlotValue}
 use Rattle.abstract_values.specs.declared.slot_value.SlotValue.TheVariants.{Number, Signals, Functions, Action}

@@ -199,7 +199,7 @@ impl AbsFns {
     }
 
     /// The least value above both.
-    pub(crate) fn join(&self, alloc: Global, o: &AbsFns) -> Result<AbsFns, NoMemory>
+    pub fn join(&self, alloc: Global, o: &AbsFns) -> Result<AbsFns, NoMemory>
         ensures { IfOk result (λ f. f ≡ fns_join self.now o.now) }
     {
         match (self, o) {

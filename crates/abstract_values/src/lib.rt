@@ -13,8 +13,6 @@ mod slot;
 mod slot_value;
 mod slots;
 mod state;
-#[cfg(test)]
-mod tests;
 
 pub use functions::{AbsFns, FnList};
 pub use number::AbsInt;

@@ -48,7 +48,7 @@ impl SlotValue {
     }
 
     /// The least value above both; above values of two forms nothing is known.
-    pub(crate) fn join(&self, alloc: Global, o: &SlotValue) -> Result<SlotValue, NoMemory>
+    pub fn join(&self, alloc: Global, o: &SlotValue) -> Result<SlotValue, NoMemory>
         ensures { IfOk result (λ v. v ≡ value_join self.now o.now) }
     {
         match (self, o) {

@@ -6,8 +6,6 @@
 
 mod ctype;
 mod matching;
-#[cfg(test)]
-mod tests;
 mod word;
 
 pub use ctype::{CType, Types};

@@ -10,8 +10,6 @@ mod cell;
 mod context;
 mod order;
 mod sites;
-#[cfg(test)]
-mod tests;
 
 pub use cell::Cell;
 pub use context::{Ctx, Role, Side, push, sites_are_few};

@@ -15,8 +15,6 @@ mod laws;
 mod object;
 mod part;
 mod target_set;
-#[cfg(test)]
-mod tests;
 mod transfer;
 
 pub use consequence::{Consequence, Consequences};

@@ -3,14 +3,26 @@
 #![tactic(auto)]
 
 #[cfg(test)]
+mod contexts;
+#[cfg(test)]
+mod facts;
+#[cfg(test)]
 mod flat_reading;
 #[cfg(test)]
 mod flat_trees;
 #[cfg(test)]
 mod grammar_cursor;
 #[cfg(test)]
+mod judgements;
+#[cfg(test)]
+mod kinds;
+#[cfg(test)]
 mod outside;
 #[cfg(test)]
 mod program_nodes;
 #[cfg(test)]
+mod scopes;
+#[cfg(test)]
 mod signal_sets;
+#[cfg(test)]
+mod states;

@@ -1,4 +1,4 @@
-use Rattle.std.proofs.Common.{refl, sym, ap, ◌∙◌, subst, ◌≡◌, arith, true, false}
+use Rattle.std.proofs.Common.{sym, ap, ◌∙◌, subst, arith}
 use Rattle.std.specs.Prelude.{not}
 use Rattle.abstract_values.specs.Codes.{AreCodes}
 use Rattle.abstract_values.proofs.Codes.{present, added, codes-with}

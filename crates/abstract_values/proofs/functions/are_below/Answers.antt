@@ -1,4 +1,4 @@
-use Rattle.std.proofs.Common.{refl, subst, sym, ◌≡◌, drop, false, true}
+use Rattle.std.proofs.Common.{refl, subst, sym, drop}
 use Rattle.std.proofs.lemmas.List.{drop_more, drop_all}
 use Rattle.abstract_values.proofs.Places.{Walk, left_met, left_first}
 use Rattle.abstract_values.proofs.Codes.{lower, equal, met_at, at_met, walk_is_under}

@@ -1,4 +1,4 @@
-use Rattle.std.proofs.Common.{refl, subst, sym, ap, ◌∙◌, ◌≡◌, ◌∷◌, ◌+◌, drop, false, true}
+use Rattle.std.proofs.Common.{refl, subst, sym, ap, ◌∙◌, ◌∷◌, ◌+◌, drop}
 use Rattle.std.proofs.lemmas.List.{drop_more, drop_all}
 use Rattle.abstract_values.proofs.Places.{Walk, left_met, left_first}
 use Rattle.abstract_values.proofs.Entries.{earlier, meets}

@@ -1,4 +1,4 @@
-use Rattle.std.proofs.Common.{◌≡◌, sym, ap, ◌∙◌, subst, false, true}
+use Rattle.std.proofs.Common.{sym, ◌∙◌, subst}
 use Rattle.std.specs.Prelude.{None}
 use Rattle.abstract_values.specs.Entries.{AreSlots, Puts}
 use Rattle.abstract_values.proofs.Entries.{removed_is, kept_is, without_entry_puts, without_entry_slots}

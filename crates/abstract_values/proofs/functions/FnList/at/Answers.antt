@@ -1,4 +1,4 @@
-use Rattle.std.proofs.Common.{◌≡◌, ◌∙◌, sym, ap, subst, ◌+◌, ◌^◌, ◌<◌}
+use Rattle.std.proofs.Common.{◌∙◌, sym, ap, subst, ◌+◌, ◌^◌, ◌<◌}
 use Rattle.std.specs.Prelude.{IfSome, slice_get}
 use Rattle.abstract_values.proofs.Codes.{code_in_range}
 use Rattle.abstract_values.proofs.functions.FnList.at.Goals as goal

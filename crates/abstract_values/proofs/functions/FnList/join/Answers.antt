@@ -1,4 +1,4 @@
-use Rattle.std.proofs.Common.{◌≡◌, sym, subst}
+use Rattle.std.proofs.Common.{sym, subst}
 use Rattle.abstract_values.specs.Codes.{AreCodes}
 use Rattle.abstract_values.proofs.Codes.{codes_range}
 use Rattle.abstract_values.proofs.functions.FnList.join.Goals as goal

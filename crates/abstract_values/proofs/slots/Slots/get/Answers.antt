@@ -1,4 +1,4 @@
-use Rattle.std.proofs.Common.{◌≡◌, ◌<◌, length, sym, ap, ◌∙◌, subst, false, true}
+use Rattle.std.proofs.Common.{◌<◌, length, ap, ◌∙◌, subst}
 use Rattle.abstract_values.specs.Entries.{slot_at}
 use Rattle.abstract_values.proofs.Entries.{found_is, nowhere_is}
 use Rattle.abstract_values.proofs.slots.Slots.get.Goals as goal

@@ -1,4 +1,4 @@
-use Rattle.std.proofs.Common.{◌≡◌, sym, subst}
+use Rattle.std.proofs.Common.{sym, subst}
 use Rattle.abstract_values.specs.Entries.{AreSlots}
 use Rattle.abstract_values.proofs.Walks.{join_slots}
 use Rattle.abstract_values.proofs.slots.Slots.join.Goals as goal

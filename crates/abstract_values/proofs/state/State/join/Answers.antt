@@ -1,4 +1,4 @@
-use Rattle.std.proofs.Common.{◌≡◌, subst, false, true}
+use Rattle.std.proofs.Common.{subst}
 use Rattle.abstract_values.specs.Entries.{AreSlots}
 use Rattle.abstract_values.proofs.Laws.{joins, joins_below, joins_formed}
 use Rattle.abstract_values.proofs.state.State.join.Goals as goal

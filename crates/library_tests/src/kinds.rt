@@ -1,4 +1,4 @@
-use super::*;
+use c_kinds::{CType, Types, Word};
 use std::alloc::{AllocError, Global};
 use std::mem;
 use std::test::Fail;

@@ -1,4 +1,4 @@
-use super::*;
+use abstract_values::{AbsFns, AbsInt, AbsSet, FnList, Slot, SlotValue, Slots, State};
 use base_core::{NoMemory, NodeId, Sig, VarId};
 use sig_set::SigSet;
 use std::alloc::Global;

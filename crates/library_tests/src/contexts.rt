@@ -1,5 +1,5 @@
-use super::*;
 use base_core::NodeId;
+use call_ctx::{Ctx, Side, push};
 use std::test::Fail;
 
 /// Whether the context keeps these two sites alone.

@@ -1,4 +1,4 @@
-use super::*;
+use c_scopes::Scope;
 use std::alloc::AllocError;
 use std::test::Fail;
 

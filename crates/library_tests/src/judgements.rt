@@ -1,6 +1,6 @@
 ghost use Rattle.std.specs.Prelude.{◌≡◌, length, OnOk};
 
-use super::*;
+use c_judgements::Growing;
 use std::alloc::AllocError;
 use std::test::Fail;
 

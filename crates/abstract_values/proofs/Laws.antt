@@ -1,13 +1,15 @@
 -- The laws of states: `Under` is an order, and the join is the least state above both.
-use Rattle.std.proofs.Common.{◌≡◌, refl, sym, ap, ◌∙◌, subst, Bool, true, false, ◌&&◌}
-use Rattle.std.specs.Prelude.{IfSome}
+use Rattle.std.proofs.Common.{◌≡◌, refl, sym, ap, ◌∙◌, subst, Bool, true, false, cond, ◌&&◌, List}
+use Rattle.std.specs.Prelude.{Option, Some, None, IfSome}
 use Rattle.std.proofs.lemmas.Bool.{and_parts, and_from}
 use Rattle.abstract_values.specs.declared.slot.Slot.{Slot}
+use Rattle.abstract_values.specs.declared.slot_value.SlotValue.{SlotValue}
 use Rattle.abstract_values.specs.declared.state.State.{State}
 use Rattle.abstract_values.specs.Numbers.{int_join}
 use Rattle.abstract_values.specs.Sets.{set_join}
-use Rattle.abstract_values.specs.Values.{IsFormed}
-use Rattle.abstract_values.specs.Entries.{slot_at, AreSlots, SlotUnder, slots_join}
+use Rattle.abstract_values.specs.Keys.{is_same}
+use Rattle.abstract_values.specs.Values.{IsFormed, is_unknown, known}
+use Rattle.abstract_values.specs.Entries.{Entry, slot_at, AreSlots, AreFormed, Puts, SlotUnder, slots_join}
 use Rattle.abstract_values.specs.States.{Under, IsJoin, IsWellFormed, unknown_state}
 use Rattle.abstract_values.proofs.Numbers.{int_refl, int_trans, int_antisymmetric, int_join_left, int_join_right, int_join_least}
 use Rattle.abstract_values.proofs.Sets.{set_refl, set_trans, set_antisymmetric, set_join_left, set_join_right, set_join_least, set_join_some, any_set_some}
@@ -99,3 +101,14 @@ joins_below s t h = record { left = under_refl s; right = h; least = λ u a b. a
 
 pub unknown_formed : IsWellFormed unknown_state
 unknown_formed = record { mask = any_set_some; bare = λ e. absurd cc; slots = λ k. tt }
+
+-- a slot that gets a value that stands for something, or none, leaves slots so
+chosen_formed : (b : Bool) (p q : Option SlotValue) → IfSome p IsFormed → IfSome q IsFormed → IfSome (cond b p q) IsFormed
+chosen_formed true p q h g = h
+chosen_formed false p q h g = g
+
+pub known_formed : (v : SlotValue) → IsFormed v → IfSome (known v) IsFormed
+known_formed v f = chosen_formed (is_unknown v) None (Some v) tt f
+
+pub put_formed : (key : Slot) (value : Option SlotValue) (old new : List Entry) → Puts key value old new → IfSome value IsFormed → AreFormed old → AreFormed new
+put_formed key value old new puts f h k = subst (λ o. IfSome o IsFormed) (sym (puts k)) (chosen_formed (is_same key k) value (slot_at old k) f (h k))

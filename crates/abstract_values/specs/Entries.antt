@@ -1,10 +1,10 @@
 -- Slots as a map: the entries in the order of their keys, and the value at each key.
-use Rattle.std.specs.Prelude.{◌≡◌, List, [], ◌∷◌, ◌++◌, cond, Option, Some, None, IsTrue, IsSomeAnd}
+use Rattle.std.specs.Prelude.{◌≡◌, List, [], ◌∷◌, ◌++◌, cond, Option, Some, None, IsTrue, IfSome, IsSomeAnd}
 use Rattle.std.specs.declared.cmp.Ordering.TheVariants.{Less}
 use Rattle.abstract_values.specs.declared.slot.Slot.{Slot}
 use Rattle.abstract_values.specs.declared.slot_value.SlotValue.{SlotValue}
 use Rattle.abstract_values.specs.Keys.{slot_cmp, is_same}
-use Rattle.abstract_values.specs.Values.{ValueUnder, value_join, is_unknown, known, IsKept}
+use Rattle.abstract_values.specs.Values.{ValueUnder, value_join, is_unknown, known, IsFormed, IsKept}
 
 abbrev pub Entry : Type 0
 Entry = Slot × SlotValue
@@ -27,6 +27,10 @@ AreSlots (e ∷ entries) = IsKept e.1 × AreSlotsAbove e.0 entries
 -- the new entries have this at the key, and at each other key what the old ones have
 abbrev pub Puts : Slot → Option SlotValue → List Entry → List Entry → Type 0
 Puts key value old new = (k : Slot) → slot_at new k ≡ cond (is_same key k) value (slot_at old k)
+
+-- each value that is known stands for something
+abbrev pub AreFormed : List Entry → Type 0
+AreFormed entries = (key : Slot) → IfSome (slot_at entries key) IsFormed
 
 -- a key that is absent may be anything
 abbrev pub SlotUnder : Option SlotValue → Option SlotValue → Type 0

@@ -1,12 +1,10 @@
 -- The order of states.
-use Rattle.std.specs.Prelude.{IsTrue, false, [], IfSome}
+use Rattle.std.specs.Prelude.{IsTrue, false, []}
 use Rattle.abstract_values.specs.declared.number.AbsInt.TheVariants.{Any}
-use Rattle.abstract_values.specs.declared.slot.Slot.{Slot}
 use Rattle.abstract_values.specs.declared.state.State.{State}
 use Rattle.abstract_values.specs.Numbers.{IntUnder}
 use Rattle.abstract_values.specs.Sets.{SetUnder, IsSomeSet, any_set}
-use Rattle.abstract_values.specs.Values.{IsFormed}
-use Rattle.abstract_values.specs.Entries.{slot_at, SlotsUnder}
+use Rattle.abstract_values.specs.Entries.{SlotsUnder, AreFormed}
 
 -- whatever state s describes, t describes
 pub record Under (s t : State) : Type 0 where
@@ -27,7 +25,7 @@ pub record IsJoin (s t u : State) : Type 0 where
 pub record IsWellFormed (s : State) : Type 0 where
   pub mask : IsSomeSet s.mask
   pub bare : IsTrue s.bare → IsTrue s.alone
-  pub slots : (key : Slot) → IfSome (slot_at s.slots key) IsFormed
+  pub slots : AreFormed s.slots
 
 -- nothing is known
 abbrev pub unknown_state : State

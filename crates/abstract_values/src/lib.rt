@@ -13,6 +13,7 @@ mod slot;
 mod slot_value;
 mod slots;
 mod state;
+mod state_laws;
 
 pub use functions::{AbsFns, FnList};
 pub use number::AbsInt;
@@ -21,3 +22,4 @@ pub use slot::Slot;
 pub use slot_value::SlotValue;
 pub use slots::Slots;
 pub use state::State;
+pub use state_laws::{states_are_ordered, states_stay_well_formed};

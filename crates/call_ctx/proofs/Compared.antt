@@ -92,12 +92,12 @@ cell_total = cell.total-law
 
 -- the orders are those of the numbers
 
-then_assoc : (p q r : Ordering) → ordering_then (ordering_then p q) r ≡ ordering_then p (ordering_then q r)
+pub then_assoc : (p q r : Ordering) → ordering_then (ordering_then p q) r ≡ ordering_then p (ordering_then q r)
 then_assoc Less q r = refl
 then_assoc Equal q r = refl
 then_assoc Greater q r = refl
 
-then_equal : (p : Ordering) → ordering_then p Equal ≡ p
+pub then_equal : (p : Ordering) → ordering_then p Equal ≡ p
 then_equal Less = refl
 then_equal Equal = refl
 then_equal Greater = refl
@@ -110,7 +110,7 @@ phase_by_number Leave Leave = refl
 phase_by_number Finish Finish = refl
 phase_by_number _ _ = refl
 
-role_by_number : (a b : Role) → role_cmp a b ≡ nat_cmp (role_number a) (role_number b)
+pub role_by_number : (a b : Role) → role_cmp a b ≡ nat_cmp (role_number a) (role_number b)
 role_by_number NoRole NoRole = refl
 role_by_number Prepare Prepare = refl
 role_by_number Parent Parent = refl
@@ -154,7 +154,7 @@ digits_16 x y x' y' h h' = grind (arith, nat_tests)
 digits_32 : (x y x' y' : ℕ) → x < 32 → x' < 32 → nat_cmp (x + 32 * y) (x' + 32 * y') ≡ ordering_then (nat_cmp y y') (nat_cmp x x')
 digits_32 x y x' y' h h' = grind (arith, nat_tests)
 
-both : {p p' q q' : Ordering} → p ≡ p' → q ≡ q' → ordering_then p q ≡ ordering_then p' q'
+pub both : {p p' q q' : Ordering} → p ≡ p' → q ≡ q' → ordering_then p q ≡ ordering_then p' q'
 both h g = λ i. ordering_then (h i) (g i)
 
 -- the marks, from the one that counts most
@@ -196,7 +196,7 @@ six a b c d e s =
     then_assoc a _ s ∙ ap (ordering_then a) (then_assoc b _ s ∙ ap (ordering_then b) (then_assoc c _ s ∙ ap (ordering_then c) (then_assoc d e s)))
 
 -- a context, and what follows it
-followed : (a b : Ctx) (xs ys : List ℕ) → slice_cmp nat_cmp (ctx_numbers a ++ xs) (ctx_numbers b ++ ys) ≡ ordering_then (ctx_cmp a b) (slice_cmp nat_cmp xs ys)
+pub followed : (a b : Ctx) (xs ys : List ℕ) → slice_cmp nat_cmp (ctx_numbers a ++ xs) (ctx_numbers b ++ ys) ≡ ordering_then (ctx_cmp a b) (slice_cmp nat_cmp xs ys)
 followed a b xs ys =
     both (marks_by_number a b) (sites_by_number a.sites b.sites xs ys)
     ∙ sym (then_assoc (marks_cmp a b) (sites_cmp a.sites b.sites) (slice_cmp nat_cmp xs ys))

@@ -9,7 +9,13 @@ use Rattle.base_core.specs.declared.id.VarId.{VarId}
 use Rattle.base_core.specs.declared.id.FnId.{FnId}
 use Rattle.call_ctx.specs.declared.context.Ctx.{Ctx}
 use Rattle.call_ctx.specs.Order.{ctx_cmp, node_cmp, role_cmp}
-use Rattle.call_ctx.proofs.Compared.{exact_ctx, exact_node, exact_role, role_total}
+use Rattle.call_ctx.proofs.Compared.{exact_ctx, exact_cell, exact_node, exact_role, role_total}
+use Rattle.call_ctx.specs.declared.context.Role.{Role}
+use Rattle.fact_values.specs.declared.object.Holder.{Holder}
+use Rattle.fact_values.specs.declared.object.Target.{Target}
+use Rattle.fact_values.specs.declared.part.Part.TheVariants as part
+use Rattle.fact_values.specs.contracts.part.PartOrd.TheImpl.Laws as part_laws
+use Rattle.fact_values.specs.PartOrder.{part_cmp}
 use Rattle.fact_values.specs.declared.object.Obj.TheVariants.{Variable, Text, Allocated, Library, Arrival, Arguments}
 use Rattle.fact_values.specs.declared.object.Holder.TheVariants as holder
 use Rattle.fact_values.specs.declared.object.Target.TheVariants as target
@@ -49,6 +55,18 @@ exact_handler a b e = exact_pairs nat_cmp fn_cmp exact_unsigned exact_fn a b e
 
 pub exact_fork : CmpEqualImpliesEq fork_cmp
 exact_fork a b e = exact_pairs role_cmp fn_cmp exact_role exact_fn a b e
+
+pub exact_part : CmpEqualImpliesEq part_cmp
+exact_part (part.Cell a) (part.Cell b) e = ap part.Cell (exact_cell a b e)
+exact_part (part.Target h t) (part.Target k u) e = ap (λ (p : Holder × Target). part.Target p.0 p.1) (exact_pairs holder_cmp target_cmp exact_holder exact_target (h, t) (k, u) e)
+exact_part (part.Installed s g) (part.Installed t h) e = ap (λ (p : ℕ × FnId). part.Installed p.0 p.1) (exact_handler (s, g) (t, h) e)
+exact_part (part.Thread g) (part.Thread h) e = ap part.Thread (exact_fn g h e)
+exact_part (part.Fork r g) (part.Fork q h) e = ap (λ (p : Role × FnId). part.Fork p.0 p.1) (exact_fork (r, g) (q, h) e)
+exact_part (part.Stirred o) (part.Stirred p) e = ap part.Stirred (exact_obj o p e)
+exact_part _ _ e = absurd cc
+
+pub part_total : IsTotalOrder part_cmp
+part_total = part_laws.total-law
 
 pub obj_total : IsTotalOrder obj_cmp
 obj_total = obj_laws.total-law

@@ -1,3 +1,4 @@
 pub mod Objects
+pub mod PartOrder
 pub mod FactLists
 pub mod Facts

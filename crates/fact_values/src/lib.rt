@@ -19,7 +19,9 @@ mod transfer;
 
 pub use consequence::{Consequence, Consequences};
 pub use facts::{Facts, Marks};
-pub use laws::{added_facts_are_least, facts_are_ordered};
+pub use laws::{
+    added_facts_are_least, facts_are_ordered, key_orders_are_total, keys_are_ordered_by_numbers,
+};
 pub use object::{Holder, Obj, Target};
 pub use part::{Held, Installed, Part};
 pub use transfer::Transfer;

@@ -26,3 +26,5 @@ mod scopes;
 mod signal_sets;
 #[cfg(test)]
 mod states;
+#[cfg(test)]
+mod value_tables;

@@ -4,41 +4,6 @@ use sig_set::SigSet;
 use std::alloc::Global;
 use std::test::Fail;
 
-/// The abstract integer that a letter of the tables stands for.
-fn named(letter: u8) -> AbsInt {
-    match letter {
-        b'A' => AbsInt::Any,
-        b'N' => AbsInt::NotZero,
-        b'0' => AbsInt::Exactly(0),
-        b'5' => AbsInt::Exactly(5),
-        b'3' => AbsInt::Exactly(-3),
-        _ => AbsInt::EntryErrno,
-    }
-}
-
-/// Whether the value of the letter is below those of A, N, 0, 5, 3 and E where a 1 stands, and has these joins.
-fn row_holds(row: u8, below: &[u8; 6], joins: &[u8; 6]) -> bool {
-    let a = named(row);
-    let columns = b"AN053E";
-    for k in 0..6 {
-        let b = named(columns[k]);
-        if a.below(b) != (below[k] == b'1') || a.join(b) != named(joins[k]) {
-            return false;
-        }
-    }
-    true
-}
-
-#[test]
-fn integers_pair_by_pair(rt: HostRuntime) {
-    assert!(rt; row_holds(b'A', b"100000", b"AAAAAA"));
-    assert!(rt; row_holds(b'N', b"110000", b"ANANNA"));
-    assert!(rt; row_holds(b'0', b"101000", b"AA0AAA"));
-    assert!(rt; row_holds(b'5', b"110100", b"ANA5NA"));
-    assert!(rt; row_holds(b'3', b"110010", b"ANAN3A"));
-    assert!(rt; row_holds(b'E', b"100001", b"AAAAAE"));
-}
-
 /// The set of the signals of these numbers.
 fn set_of(numbers: &[u8]) -> SigSet {
     let mut set = SigSet::empty();
@@ -57,42 +22,6 @@ fn abs_set(must: &[u8], may: &[u8]) -> AbsSet {
     }
 }
 
-fn is_below(a: &AbsSet, b: &AbsSet) -> bool {
-    a.below(*b)
-}
-
-fn is_set(a: &AbsSet, b: &AbsSet) -> bool {
-    a.must == b.must && a.may == b.may
-}
-
-fn joins(a: &AbsSet, b: &AbsSet, both: &AbsSet) -> bool {
-    let join = a.join(*b);
-    is_set(&join, both)
-}
-
-/// Whether `a` is below `b` and `b` isn't below `a`, so that `b` is the join.
-fn is_properly_below(a: &AbsSet, b: &AbsSet) -> bool {
-    is_below(a, b) && !is_below(b, a) && joins(a, b, b) && joins(b, a, b)
-}
-
-#[test]
-fn sets_pair_by_pair(rt: HostRuntime) {
-    let two = abs_set(&[2], &[2]);
-    let two_or_none = abs_set(&[], &[2]);
-    let two_and_three = abs_set(&[2, 3], &[2, 3]);
-    let perhaps_three = abs_set(&[2], &[2, 3]);
-    let any = AbsSet::any();
-    let ordered = is_below(&two, &two)
-        && is_properly_below(&two, &two_or_none)
-        && is_properly_below(&two_or_none, &any)
-        && is_properly_below(&two, &perhaps_three)
-        && is_properly_below(&two_and_three, &perhaps_three);
-    let apart = !is_below(&two, &two_and_three)
-        && !is_below(&two_and_three, &two)
-        && joins(&two, &two_and_three, &perhaps_three);
-    assert!(rt; ordered && apart);
-}
-
 /// The functions of these codes.
 fn among(alloc: Global, codes: &[u64]) -> Result<AbsFns, NoMemory> {
     let mut list = FnList::new(alloc);
@@ -102,46 +31,6 @@ fn among(alloc: Global, codes: &[u64]) -> Result<AbsFns, NoMemory> {
         }
     }
     Ok(AbsFns::Among(list))
-}
-
-/// Whether the join of two is the third.
-fn joins_to(alloc: Global, a: &AbsFns, b: &AbsFns, both: &AbsFns) -> Result<bool, NoMemory> {
-    let join = a.join(alloc, b)?;
-    Ok(join.below(both) && both.below(&join))
-}
-
-fn is_below_both(none: &AbsFns, null: &AbsFns, third: &AbsFns) -> bool {
-    none.below(null) && none.below(third) && !null.below(none) && !third.below(none)
-}
-
-fn functions_hold(null: &AbsFns, third: &AbsFns, both: &AbsFns) -> bool {
-    null.below(null)
-        && null.below(both)
-        && third.below(both)
-        && both.below(&AbsFns::Any)
-        && AbsFns::Any.below(&AbsFns::Any)
-        && !null.below(third)
-        && !third.below(null)
-        && !both.below(null)
-        && !both.below(third)
-        && !AbsFns::Any.below(both)
-}
-
-#[test]
-fn functions_pair_by_pair(rt: HostRuntime) -> Result<(), Fail> {
-    let alloc = rt.alloc();
-    let none = among(alloc, &[])?;
-    let null = among(alloc, &[0])?;
-    let third = among(alloc, &[4])?;
-    let both = among(alloc, &[4, 0, 4])?;
-    let holds = is_below_both(&none, &null, &third)
-        && functions_hold(&null, &third, &both)
-        && joins_to(alloc, &null, &third, &both)?
-        && joins_to(alloc, &third, &null, &both)?
-        && joins_to(alloc, &null, &both, &both)?
-        && joins_to(alloc, &null, &AbsFns::Any, &AbsFns::Any)?;
-    assert!(rt; holds);
-    Ok(())
 }
 
 /// Whether the list is 0, 3, 4294967297.

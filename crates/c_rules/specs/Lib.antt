@@ -1,0 +1,15 @@
+pub mod Misfit
+pub mod Judgement
+pub mod Form
+pub mod Types
+pub mod Names
+pub mod Values
+pub mod Operators
+pub mod Access
+pub mod Calls
+pub mod LibraryCalls
+pub mod Marks
+pub mod Conversions
+pub mod Declarations
+pub mod Statements
+pub mod Seen

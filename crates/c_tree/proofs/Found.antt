@@ -5,9 +5,9 @@ use Rattle.std.proofs.lemmas.List.Sums.{sum_by-cons}
 use Rattle.std.proofs.lemmas.Option.{slice_get_within, get_or_from_slice_get}
 use Rattle.base_core.specs.declared.place.Place.{Place}
 use Rattle.c_tree.specs.ProgramTree.{ProgramTree, IsPlaced, is_function_node, is_function_at, trees, close_of, close_at, file_name}
-use Rattle.c_tree.specs.Progress.{Progress, pass, pass_all, count_function}
+use Rattle.c_tree.specs.Progress.{Progress, pass, count_function}
 use Rattle.c_tree.specs.Nodes.{Node, is_function, program_node, nodes}
-use Rattle.c_tree.specs.Passing.{pass_items}
+use Rattle.c_tree.specs.Passing.{pass_items, pass_all}
 use Rattle.c_tree.specs.Tree.{Name, ItemTree}
 use Rattle.c_tree.proofs.Passing.{items_passes}
 
@@ -29,36 +29,36 @@ pub pass_by : (left k : ℕ) (n : Node) → pass (from (suc left) k) n ≡ from 
 unfolding pass
 pass_by left k n = refl
 
-pub stays : (k : ℕ) (x : Node) (ns : List Node) → pass_all (at_node k x) ns ≡ at_node k x
+pub stays : (k : ℕ) (x : Node) (ns : List Node) → pass_all pass (at_node k x) ns ≡ at_node k x
 stays k x [] = refl
-stays k x (n ∷ ns) = ap (λ p. pass_all p ns) (pass_found k x n) ∙ stays k x ns
+stays k x (n ∷ ns) = ap (λ p. pass_all pass p ns) (pass_found k x n) ∙ stays k x ns
 
 -- it finds the node of its number
-pub finds : (left k : ℕ) (ns : List Node) → (pass_all (from left k) ns).found ≡ slice_get ns left
+pub finds : (left k : ℕ) (ns : List Node) → (pass_all pass (from left k) ns).found ≡ slice_get ns left
 finds left k [] = refl
-finds zero k (n ∷ ns) = ap (λ p. (pass_all p ns).found) (pass_here k n) ∙ ap (λ (p : Progress). p.found) (stays k n ns)
-finds (suc left) k (n ∷ ns) = ap (λ p. (pass_all p ns).found) (pass_by left k n) ∙ finds left (count_function n k) ns
+finds zero k (n ∷ ns) = ap (λ p. (pass_all pass p ns).found) (pass_here k n) ∙ ap (λ (p : Progress). p.found) (stays k n ns)
+finds (suc left) k (n ∷ ns) = ap (λ p. (pass_all pass p ns).found) (pass_by left k n) ∙ finds left (count_function n k) ns
 
 one_more : (b : Bool) (k c : ℕ) → cond b (k + 1) k + c ≡ k + (cond b 1 0 + c)
 one_more true k c = omega arith
 one_more false k c = omega arith
 
 -- it counts the functions before that node
-pub counts : (left k : ℕ) (ns : List Node) → (pass_all (from left k) ns).functions ≡ k + count_by is_function (take left ns)
+pub counts : (left k : ℕ) (ns : List Node) → (pass_all pass (from left k) ns).functions ≡ k + count_by is_function (take left ns)
 counts zero k [] = omega arith
 counts (suc left) k [] = omega arith
-counts zero k (n ∷ ns) = ap (λ p. (pass_all p ns).functions) (pass_here k n) ∙ ap (λ (p : Progress). p.functions) (stays k n ns) ∙ omega arith
+counts zero k (n ∷ ns) = ap (λ p. (pass_all pass p ns).functions) (pass_here k n) ∙ ap (λ (p : Progress). p.functions) (stays k n ns) ∙ omega arith
 counts (suc left) k (n ∷ ns) =
-    ap (λ p. (pass_all p ns).functions) (pass_by left k n) ∙ counts left (count_function n k) ns
+    ap (λ p. (pass_all pass p ns).functions) (pass_by left k n) ∙ counts left (count_function n k) ns
     ∙ one_more (is_function n) k (count_by is_function (take left ns))
     ∙ ap (λ s. k + s) (sym (sum_by-cons (λ x. cond (is_function x) 1 0) n (take left ns)))
 
 -- a search through a whole program
 abbrev pub through : ℕ → List ItemTree → Progress
-through n items = pass_items (pass (from n 0) (program_node items)) items
+through n items = pass_items pass (pass (from n 0) (program_node items)) items
 
-through_passes : (n : ℕ) (items : List ItemTree) → through n items ≡ pass_all (from n 0) (nodes items)
-through_passes n items = items_passes (pass (from n 0) (program_node items)) items
+through_passes : (n : ℕ) (items : List ItemTree) → through n items ≡ pass_all pass (from n 0) (nodes items)
+through_passes n items = items_passes pass (pass (from n 0) (program_node items)) items
 
 pub through_finds : (p : Progress) (n : ℕ) (items : List ItemTree) → p ≡ through n items → p.found ≡ slice_get (nodes items) n
 through_finds p n items e = ap (λ (q : Progress). q.found) (e ∙ through_passes n items) ∙ finds n 0 (nodes items)

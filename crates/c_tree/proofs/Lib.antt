@@ -6,3 +6,4 @@ pub mod Found
 pub mod Examples
 pub mod Refusals
 pub mod StatementViewLemmas
+pub mod Behind

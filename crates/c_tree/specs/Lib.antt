@@ -15,3 +15,4 @@ pub mod ProgramTree
 pub mod Search
 pub mod Progress
 pub mod Passing
+pub mod Behind

@@ -1,5 +1,5 @@
 -- A search for a node by its number in preorder: it passes the nodes one by one, and stops where it finds the node.
-use Rattle.std.specs.Prelude.{ℕ, zero, suc, ◌+◌, List, [], ◌∷◌, Option, Some, None, if◌then◌else◌}
+use Rattle.std.specs.Prelude.{ℕ, zero, suc, ◌+◌, Option, Some, None, if◌then◌else◌}
 use Rattle.c_tree.specs.Nodes.{Node, is_function}
 
 -- how many nodes are left to pass, how many functions were passed, and the node once it is found
@@ -22,8 +22,3 @@ pass_from None p n = pass_at p.left p.functions n
 
 unfoldable pub pass : Progress → Node → Progress
 pass p n = pass_from p.found p n
-
--- the nodes of a list, one by one
-abbrev pub pass_all : Progress → List Node → Progress
-pass_all p [] = p
-pass_all p (n ∷ ns) = pass_all (pass p n) ns

@@ -10,6 +10,7 @@
 //! It stands on `base_core`, and on the lists and boxes of `sqlite_items`.
 #![tactic(auto)]
 
+mod count;
 mod node;
 mod program;
 mod search;
@@ -17,6 +18,10 @@ mod tree;
 mod walk;
 mod walk_items;
 
+pub use count::{
+    count_declaration, count_declarator, count_expression, count_init, count_named, count_optional,
+    count_parameters, count_specifiers, count_start, count_statement, count_type,
+};
 pub use node::NodeRef;
 pub use program::Program;
 pub use tree::{

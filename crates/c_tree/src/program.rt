@@ -110,7 +110,7 @@ impl Program {
     }
 
     fn search(&self, n: NodeId) -> Search<'_>
-        ensures { progress result ≡ pass_items (pass (record { left = n.0; functions = 0; found = None }) (program_node (trees self.now))) (trees self.now) }
+        ensures { progress result ≡ pass_items pass (pass (record { left = n.0; functions = 0; found = None }) (program_node (trees self.now))) (trees self.now) }
     {
         let mut search = Search::new(n);
         search.pass(NodeRef::Program(self));

@@ -43,7 +43,7 @@ impl<'a> Search<'a> {
 
 #[cycle(search)]
 pub(crate) fn search_expression<'a>(e: &'a Expr, search: &mut Search<'a>)
-    ensures { progress search.new ≡ pass_expression (progress search.old) (view_expression e.now) }
+    ensures { progress search.new ≡ pass_expression pass (progress search.old) (view_expression e.now) }
 {
     search.pass(NodeRef::Expr(e));
     match e {
@@ -78,7 +78,7 @@ pub(crate) fn search_expression<'a>(e: &'a Expr, search: &mut Search<'a>)
 
 #[cycle(search)]
 fn search_expressions<'a>(all: &'a [Expr], search: &mut Search<'a>)
-    ensures { progress search.new ≡ pass_expressions (progress search.old) (expressions_of (map view_expression all.now)) }
+    ensures { progress search.new ≡ pass_expressions pass (progress search.old) (expressions_of (map view_expression all.now)) }
 {
     for e in all {
         search_expression(e, search);
@@ -87,7 +87,7 @@ fn search_expressions<'a>(all: &'a [Expr], search: &mut Search<'a>)
 
 #[cycle(search)]
 fn search_sizes<'a>(all: &'a [Option<Expr>], search: &mut Search<'a>)
-    ensures { progress search.new ≡ pass_sizes (progress search.old) (sizes_of (map (option_map view_expression) all.now)) }
+    ensures { progress search.new ≡ pass_sizes pass (progress search.old) (sizes_of (map (option_map view_expression) all.now)) }
 {
     for size in all {
         match size {
@@ -98,8 +98,8 @@ fn search_sizes<'a>(all: &'a [Option<Expr>], search: &mut Search<'a>)
 }
 
 #[cycle(search)]
-fn search_type<'a>(t: &'a TypeName, search: &mut Search<'a>)
-    ensures { progress search.new ≡ pass_type (progress search.old) (view_type t.now) }
+pub(crate) fn search_type<'a>(t: &'a TypeName, search: &mut Search<'a>)
+    ensures { progress search.new ≡ pass_type pass (progress search.old) (view_type t.now) }
 {
     search_specifiers(t.specs.as_slice(), search);
     search_bare(&t.bare, search);
@@ -107,7 +107,7 @@ fn search_type<'a>(t: &'a TypeName, search: &mut Search<'a>)
 
 #[cycle(search)]
 pub(crate) fn search_specifiers<'a>(all: &'a [SpecWord], search: &mut Search<'a>)
-    ensures { progress search.new ≡ pass_specifiers (progress search.old) (specifiers_of (map view_specifier all.now)) }
+    ensures { progress search.new ≡ pass_specifiers pass (progress search.old) (specifiers_of (map view_specifier all.now)) }
 {
     for word in all {
         match word {
@@ -120,7 +120,7 @@ pub(crate) fn search_specifiers<'a>(all: &'a [SpecWord], search: &mut Search<'a>
 
 #[cycle(search)]
 fn search_members<'a>(all: &'a [Member], search: &mut Search<'a>)
-    ensures { progress search.new ≡ pass_members (progress search.old) (members_of (map view_member all.now)) }
+    ensures { progress search.new ≡ pass_members pass (progress search.old) (members_of (map view_member all.now)) }
 {
     for member in all {
         search_specifiers(member.specs.as_slice(), search);
@@ -130,7 +130,7 @@ fn search_members<'a>(all: &'a [Member], search: &mut Search<'a>)
 
 #[cycle(search)]
 fn search_declarators<'a>(all: &'a [Declarator], search: &mut Search<'a>)
-    ensures { progress search.new ≡ pass_declarators (progress search.old) (declarators_of (map view_declarator all.now)) }
+    ensures { progress search.new ≡ pass_declarators pass (progress search.old) (declarators_of (map view_declarator all.now)) }
 {
     for declarator in all {
         search.pass(NodeRef::Member(declarator));
@@ -140,7 +140,7 @@ fn search_declarators<'a>(all: &'a [Declarator], search: &mut Search<'a>)
 
 #[cycle(search)]
 fn search_enumerators<'a>(all: &'a [Enumerator], search: &mut Search<'a>)
-    ensures { progress search.new ≡ pass_enumerators (progress search.old) (enumerators_of (map view_enumerator all.now)) }
+    ensures { progress search.new ≡ pass_enumerators pass (progress search.old) (enumerators_of (map view_enumerator all.now)) }
 {
     for enumerator in all {
         search.pass(NodeRef::Enumerator(enumerator));
@@ -153,7 +153,7 @@ fn search_enumerators<'a>(all: &'a [Enumerator], search: &mut Search<'a>)
 
 #[cycle(search)]
 pub(crate) fn search_declarator<'a>(d: &'a Declarator, search: &mut Search<'a>)
-    ensures { progress search.new ≡ pass_declarator (progress search.old) (view_declarator d.now) }
+    ensures { progress search.new ≡ pass_declarator pass (progress search.old) (view_declarator d.now) }
 {
     match d {
         Declarator::Plain(_, _) => {}
@@ -168,7 +168,7 @@ pub(crate) fn search_declarator<'a>(d: &'a Declarator, search: &mut Search<'a>)
 
 #[cycle(search)]
 pub(crate) fn search_parameters<'a>(all: &'a [Parameter], search: &mut Search<'a>)
-    ensures { progress search.new ≡ pass_parameters (progress search.old) (parameters_of (map view_parameter all.now)) }
+    ensures { progress search.new ≡ pass_parameters pass (progress search.old) (parameters_of (map view_parameter all.now)) }
 {
     for parameter in all {
         match &parameter.form {
@@ -187,7 +187,7 @@ pub(crate) fn search_parameters<'a>(all: &'a [Parameter], search: &mut Search<'a
 
 #[cycle(search)]
 fn search_bare<'a>(b: &'a Bare, search: &mut Search<'a>)
-    ensures { progress search.new ≡ pass_bare (progress search.old) (view_bare b.now) }
+    ensures { progress search.new ≡ pass_bare pass (progress search.old) (view_bare b.now) }
 {
     match b {
         Bare::Plain(_) => {}

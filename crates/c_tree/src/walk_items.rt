@@ -1,5 +1,6 @@
 ghost use Rattle.std.specs.Prelude.{◌≡◌, map, option_map};
 ghost use Rattle.c_tree.specs.Passing.{pass_init, pass_initializers, pass_names, pass_named, pass_declaration, pass_optional, pass_start, pass_statement, pass_statements, pass_function, pass_items};
+ghost use Rattle.c_tree.specs.Progress.{pass};
 ghost use Rattle.c_tree.specs.Search.{progress};
 ghost use Rattle.c_tree.specs.View.{view_expression};
 ghost use Rattle.c_tree.specs.StatementView.{view_init, view_part, view_named, view_declaration, view_start, view_statement, view_function, view_item, initializers_of, statements_of};
@@ -10,8 +11,8 @@ use crate::tree::{Decl, Expr, ForStart, Function, Init, Item, Named, Part, Stmt}
 use crate::walk::{search_declarator, search_expression, search_parameters, search_specifiers};
 
 #[cycle(search_init)]
-fn search_init<'a>(i: &'a Init, search: &mut Search<'a>)
-    ensures { progress search.new ≡ pass_init (progress search.old) (view_init i.now) }
+pub(crate) fn search_init<'a>(i: &'a Init, search: &mut Search<'a>)
+    ensures { progress search.new ≡ pass_init pass (progress search.old) (view_init i.now) }
 {
     match i {
         Init::Expr(e) => search_expression(e, search),
@@ -24,7 +25,7 @@ fn search_init<'a>(i: &'a Init, search: &mut Search<'a>)
 
 #[cycle(search_init)]
 fn search_parts<'a>(all: &'a [Part], search: &mut Search<'a>)
-    ensures { progress search.new ≡ pass_initializers (progress search.old) (initializers_of (map view_part all.now)) }
+    ensures { progress search.new ≡ pass_initializers pass (progress search.old) (initializers_of (map view_part all.now)) }
 {
     for part in all {
         search_init(&part.init, search);
@@ -32,15 +33,15 @@ fn search_parts<'a>(all: &'a [Part], search: &mut Search<'a>)
 }
 
 fn search_names<'a>(all: &'a [Named], search: &mut Search<'a>)
-    ensures { progress search.new ≡ pass_names (progress search.old) (map view_named all.now) }
+    ensures { progress search.new ≡ pass_names pass (progress search.old) (map view_named all.now) }
 {
     for named in all {
         search_named(named, search);
     }
 }
 
-fn search_named<'a>(n: &'a Named, search: &mut Search<'a>)
-    ensures { progress search.new ≡ pass_named (progress search.old) (view_named n.now) }
+pub(crate) fn search_named<'a>(n: &'a Named, search: &mut Search<'a>)
+    ensures { progress search.new ≡ pass_named pass (progress search.old) (view_named n.now) }
 {
     search.pass(NodeRef::Named(n));
     search_declarator(&n.declarator, search);
@@ -50,16 +51,16 @@ fn search_named<'a>(n: &'a Named, search: &mut Search<'a>)
     }
 }
 
-fn search_declaration<'a>(d: &'a Decl, search: &mut Search<'a>)
-    ensures { progress search.new ≡ pass_declaration (progress search.old) (view_declaration d.now) }
+pub(crate) fn search_declaration<'a>(d: &'a Decl, search: &mut Search<'a>)
+    ensures { progress search.new ≡ pass_declaration pass (progress search.old) (view_declaration d.now) }
 {
     search.pass(NodeRef::Decl(d));
     search_specifiers(d.specs.as_slice(), search);
     search_names(d.names.as_slice(), search);
 }
 
-fn search_optional<'a>(e: &'a Option<Expr>, search: &mut Search<'a>)
-    ensures { progress search.new ≡ pass_optional (progress search.old) (option_map view_expression e.now) }
+pub(crate) fn search_optional<'a>(e: &'a Option<Expr>, search: &mut Search<'a>)
+    ensures { progress search.new ≡ pass_optional pass (progress search.old) (option_map view_expression e.now) }
 {
     match e {
         Some(e) => search_expression(e, search),
@@ -67,8 +68,8 @@ fn search_optional<'a>(e: &'a Option<Expr>, search: &mut Search<'a>)
     }
 }
 
-fn search_start<'a>(start: &'a ForStart, search: &mut Search<'a>)
-    ensures { progress search.new ≡ pass_start (progress search.old) (view_start start.now) }
+pub(crate) fn search_start<'a>(start: &'a ForStart, search: &mut Search<'a>)
+    ensures { progress search.new ≡ pass_start pass (progress search.old) (view_start start.now) }
 {
     match start {
         ForStart::Decl(d) => search_declaration(d, search),
@@ -77,8 +78,8 @@ fn search_start<'a>(start: &'a ForStart, search: &mut Search<'a>)
 }
 
 #[cycle(search_statement)]
-fn search_statement<'a>(s: &'a Stmt, search: &mut Search<'a>)
-    ensures { progress search.new ≡ pass_statement (progress search.old) (view_statement s.now) }
+pub(crate) fn search_statement<'a>(s: &'a Stmt, search: &mut Search<'a>)
+    ensures { progress search.new ≡ pass_statement pass (progress search.old) (view_statement s.now) }
 {
     match s {
         Stmt::Decl(d) => search_declaration(d, search),
@@ -125,7 +126,7 @@ fn search_statement<'a>(s: &'a Stmt, search: &mut Search<'a>)
 
 #[cycle(search_statement)]
 fn search_statements<'a>(all: &'a [Stmt], search: &mut Search<'a>)
-    ensures { progress search.new ≡ pass_statements (progress search.old) (statements_of (map view_statement all.now)) }
+    ensures { progress search.new ≡ pass_statements pass (progress search.old) (statements_of (map view_statement all.now)) }
 {
     for statement in all {
         if search.found.is_some() {
@@ -136,7 +137,7 @@ fn search_statements<'a>(all: &'a [Stmt], search: &mut Search<'a>)
 }
 
 fn search_function<'a>(f: &'a Function, search: &mut Search<'a>)
-    ensures { progress search.new ≡ pass_function (progress search.old) (view_function f.now) }
+    ensures { progress search.new ≡ pass_function pass (progress search.old) (view_function f.now) }
 {
     search.pass(NodeRef::Function(f));
     search_specifiers(f.specs.as_slice(), search);
@@ -145,7 +146,7 @@ fn search_function<'a>(f: &'a Function, search: &mut Search<'a>)
 }
 
 pub(crate) fn search_items<'a>(all: &'a [Item], search: &mut Search<'a>)
-    ensures { progress search.new ≡ pass_items (progress search.old) (map view_item all.now) }
+    ensures { progress search.new ≡ pass_items pass (progress search.old) (map view_item all.now) }
 {
     for item in all {
         if search.found.is_some() {

@@ -5,7 +5,7 @@ use Rattle.c_kinds.specs.Word.{same, has_values}
 use Rattle.c_kinds.specs.declared.word.Word.TheVariants as w
 use Rattle.c_kinds.specs.Matching.{agrees}
 use Rattle.c_rules.specs.declared.misfit.MisfitKind.{MisfitKind}
-use Rattle.c_rules.specs.declared.misfit.MisfitKind.TheVariants.{KindMismatch, LeftOut, NoMain}
+use Rattle.c_rules.specs.declared.misfit.MisfitKind.TheVariants.{UnknownName, KindMismatch, LeftOut, NoMain}
 use Rattle.c_rules.specs.declared.form.Constant.{Constant}
 use Rattle.c_rules.specs.declared.form.Constant.TheVariants.{Zero}
 use Rattle.c_rules.specs.Judgement.{Judgement, fails, silent, unless}
@@ -33,6 +33,12 @@ abbrev pub list_misfit : Kind → Option MisfitKind
 list_misfit (array k) = None
 list_misfit (structure n) = None
 list_misfit _ = Some KindMismatch
+
+-- A part of a list fills a member or an element of this kind, which is missing where there is none: of the name that the part gives, as in
+-- every array (6.7.9p7), or behind the last (6.7.9p2).
+abbrev pub part_misfit : Bool → Option Kind → Option MisfitKind
+part_misfit is_named (Some k) = None
+part_misfit is_named None = if is_named then Some UnknownName else Some KindMismatch
 
 abbrev pub is_zero : Constant → Bool
 is_zero Zero = true

@@ -44,18 +44,19 @@ is_accepted due c None = true
 
 -- ---- places
 
--- a modifiable lvalue (6.3.2.1p1): it designates an object that isn't declared const, nor a part of one, and is no array
 abbrev pub is_array : Option Kind → Bool
 is_array (Some (array k)) = true
 is_array _ = false
 
-abbrev pub is_place : Designates → Bool
-is_place Object = true
-is_place Errno = true
-is_place _ = false
+-- an object that may be stored into: it isn't declared const, nor a part of one that is
+abbrev pub is_storable : Designates → Bool
+is_storable Object = true
+is_storable Errno = true
+is_storable _ = false
 
+-- a modifiable lvalue designates such an object, and is no array (6.3.2.1p1)
 abbrev pub is_modifiable : Form → Option Kind → Bool
-is_modifiable f k = is_place f.designates && not (is_array k)
+is_modifiable f k = is_storable f.designates && not (is_array k)
 
 -- ---- operators that store
 

@@ -51,6 +51,18 @@ pub fn list_misfit(kind: &CType) -> Option<MisfitKind>
     }
 }
 
+/// What is wrong with a part of a list that fills a member or an element of this kind; None where there is none of the part's name, or
+/// none behind the last (C11 6.7.9p2, p7).
+pub fn part_misfit(is_named: bool, filled: Option<&CType>) -> Option<MisfitKind>
+    ensures { result ≡ rule.part_misfit is_named (option_map (λ t. view t.now) filled.entry) }
+{
+    match filled {
+        Some(_) => None,
+        None if is_named => Some(MisfitKind::UnknownName),
+        None => Some(MisfitKind::KindMismatch),
+    }
+}
+
 /// What is wrong with a part of a list that names no member, in a list for an object of this type: in one for a struct sigaction it is the
 /// constant 0, and the only part.
 pub fn positional_misfit(kind: &CType, is_sole: bool, constant: Constant) -> Option<MisfitKind>

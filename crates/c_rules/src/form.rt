@@ -4,7 +4,7 @@ ghost use Rattle.c_rules.specs.Form as spec;
 use c_arithmetic::integer_number;
 
 /// Which constant an expression is, where a rule looks at that.
-#[derive(Clone, Copy, Debug, PartialEq, Eq)]
+#[derive(Clone, Copy)]
 pub enum Constant {
     /// None of these.
     Other,
@@ -21,7 +21,7 @@ pub enum Constant {
 }
 
 /// What an expression designates (C11 6.3.2.1).
-#[derive(Clone, Copy, Debug, PartialEq, Eq)]
+#[derive(Clone, Copy)]
 pub enum Designates {
     /// Nothing: it is a value alone.
     Nothing,
@@ -38,7 +38,7 @@ pub enum Designates {
 }
 
 /// What a rule looks at in an expression besides its kind.
-#[derive(Clone, Copy, Debug, PartialEq, Eq)]
+#[derive(Clone, Copy)]
 pub struct Form {
     /// Which constant it is.
     pub constant: Constant,

@@ -28,8 +28,8 @@ pub use access::{arrow, dot, index};
 pub use calls::call;
 pub use conversions::{cast, size_of, size_of_type};
 pub use declarations::{
-    is_main_type, list_misfit, main_misfit, object_misfit, passed_misfit, positional_misfit,
-    redeclared_misfit,
+    is_main_type, list_misfit, main_misfit, object_misfit, part_misfit, passed_misfit,
+    positional_misfit, redeclared_misfit,
 };
 pub use form::{Constant, Designates, Form};
 pub use library_calls::library_call;

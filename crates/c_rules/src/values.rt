@@ -51,8 +51,9 @@ pub(crate) fn is_accepted(due: &CType, x: &Operand) -> bool
     }
 }
 
-fn is_place(designates: Designates) -> bool
-    ensures { result ≡ rule.is_place designates }
+/// Whether an object that may be stored into is designated.
+fn is_storable(designates: Designates) -> bool
+    ensures { result ≡ rule.is_storable designates }
 {
     matches!(designates, Designates::Object | Designates::Errno)
 }
@@ -61,7 +62,7 @@ fn is_place(designates: Designates) -> bool
 fn is_modifiable(form: Form, kind: Option<&CType>) -> bool
     ensures { result ≡ rule.is_modifiable form (option_map (λ t. view t.now) kind.entry) }
 {
-    is_place(form.designates) && !matches!(kind, Some(CType::Array(_)))
+    is_storable(form.designates) && !matches!(kind, Some(CType::Array(_)))
 }
 
 /// Whether it is an integer or a pointer to an object.

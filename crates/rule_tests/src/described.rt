@@ -1,12 +1,9 @@
-use base_core::NoMemory;
-use c_builtins::{BuiltIn, NamedBuiltIn, built_ins};
+//! Operands and verdicts by short descriptions.
+
 use c_kinds::{CType, Types};
-use c_rules::{Constant, Denoted, Designates, Form, MisfitKind, Operand, Verdict};
-use c_tree::{AssignOp, BinaryOp, UnaryOp};
-use posix_table::{Row, Table, profile};
+use c_rules::{Constant, Designates, Form, MisfitKind, Operand, Verdict};
 use std::alloc::{AllocError, Global};
 use std::mem;
-use std::test::Fail;
 
 /// Takes one step of a kind's description: a base kind is pushed, `*` and `[` make a pointer to the last and an array of it, and `f` a
 /// function that gives the last and takes those before it.
@@ -49,7 +46,7 @@ fn modify(alloc: Global, kinds: &mut Vec<CType>, step: u8) -> Result<(), AllocEr
 }
 
 /// The kind of this description; None of none.
-fn described(alloc: Global, text: &[u8]) -> Result<Option<CType>, AllocError> {
+pub(crate) fn described(alloc: Global, text: &[u8]) -> Result<Option<CType>, AllocError> {
     let mut kinds = Vec::new(alloc);
     for step in text {
         describe(alloc, &mut kinds, *step)?;
@@ -101,7 +98,7 @@ fn form(letter: u8) -> Form {
 
 /// The operand of a description: the letter of its form, and its kind. A library function's name has none; `w` is an operand that breaks a
 /// rule, and `s` one that has no kind by its form.
-fn operand(alloc: Global, text: &[u8]) -> Result<Operand, AllocError> {
+pub(crate) fn operand(alloc: Global, text: &[u8]) -> Result<Operand, AllocError> {
     let letter = text.first().copied().unwrap_or(b'.');
     let kind = described(alloc, text.get(1..).unwrap_or(&[]))?;
     let verdict = match (letter, kind) {
@@ -116,16 +113,23 @@ fn operand(alloc: Global, text: &[u8]) -> Result<Operand, AllocError> {
     })
 }
 
-fn operands(alloc: Global, texts: &[&[u8]]) -> Result<Vec<Operand>, AllocError> {
+/// The operands of descriptions between blanks.
+pub(crate) fn operands(alloc: Global, text: &[u8]) -> Result<Vec<Operand>, AllocError> {
     let mut all = Vec::new(alloc);
-    for text in texts {
-        all.push(operand(alloc, text)?)?;
+    for word in text.split(|b| *b == b' ') {
+        if !word.is_empty() {
+            all.push(operand(alloc, word)?)?;
+        }
     }
     Ok(all)
 }
 
 /// Whether a verdict is what a description says: a kind, `!` and the digit of a rule's number, `?` for one that waits, `-` for none.
-fn is_wanted(alloc: Global, verdict: &Verdict, wanted: &[u8]) -> Result<bool, AllocError> {
+pub(crate) fn is_wanted(
+    alloc: Global,
+    verdict: &Verdict,
+    wanted: &[u8],
+) -> Result<bool, AllocError> {
     match (verdict, wanted) {
         (Verdict::Fails(misfit), [b'!', digit]) => Ok(misfit.number() % 10 + b'0' == *digit),
         (Verdict::Waits, [b'?']) | (Verdict::Silent, [b'-']) => Ok(true),
@@ -135,92 +139,4 @@ fn is_wanted(alloc: Global, verdict: &Verdict, wanted: &[u8]) -> Result<bool, Al
         },
         _ => Ok(false),
     }
-}
-
-/// A rule on operands.
-#[derive(Clone, Copy)]
-enum Rule {
-    Unary(UnaryOp),
-    Binary(BinaryOp),
-    Assign(AssignOp),
-    Step,
-    Comma,
-    Choose,
-    Paren,
-    Index,
-    Dot(&'static [u8]),
-    Arrow(&'static [u8]),
-    Call,
-    Cast(&'static [u8]),
-    SizeOf,
-    Condition,
-    Switch,
-    Return(&'static [u8]),
-}
-
-/// What a rule that takes a kind says of an operand.
-fn judged_by(alloc: Global, rule: Rule, kind: Option<&CType>, x: &Operand) -> Result<Verdict, AllocError> {
-    match (rule, kind) {
-        (Rule::Dot(_), _) => c_rules::dot(kind, x),
-        (Rule::Arrow(_), _) => c_rules::arrow(kind, x),
-        (Rule::Cast(_), Some(kind)) => c_rules::cast(kind, x),
-        (Rule::Return(_), Some(kind)) => Ok(c_rules::returned(kind, x)),
-        (Rule::Unary(op), _) => c_rules::unary(alloc, op, x),
-        (Rule::Step, _) => c_rules::step(x),
-        (Rule::Paren, _) => c_rules::paren(x),
-        (Rule::SizeOf, _) => Ok(c_rules::size_of(x)),
-        (Rule::Condition, _) => Ok(c_rules::condition(x)),
-        (Rule::Switch, _) => Ok(c_rules::switched(x)),
-        _ => Ok(Verdict::Waits),
-    }
-}
-
-/// The description of the kind that a rule takes.
-fn kind_of(rule: Rule) -> &'static [u8] {
-    match rule {
-        Rule::Dot(text) | Rule::Arrow(text) | Rule::Cast(text) | Rule::Return(text) => text,
-        _ => b"",
-    }
-}
-
-fn judged(alloc: Global, rule: Rule, xs: &[Operand]) -> Result<Verdict, AllocError> {
-    match (rule, xs) {
-        (Rule::Call, [callee, arguments @ ..]) => c_rules::call(callee, arguments),
-        (Rule::Choose, [first, x, y]) => c_rules::choose(first, x, y),
-        (Rule::Binary(op), [x, y]) => c_rules::binary(op, x, y),
-        (Rule::Assign(op), [x, y]) => c_rules::assign(op, x, y),
-        (Rule::Comma, [x, y]) => c_rules::comma(x, y),
-        (Rule::Index, [x, y]) => c_rules::index(x, y),
-        (_, [x]) => {
-            let kind = described(alloc, kind_of(rule))?;
-            judged_by(alloc, rule, kind.as_ref(), x)
-        }
-        _ => Ok(Verdict::Waits),
-    }
-}
-
-struct Case {
-    rule: Rule,
-    operands: &'static [&'static [u8]],
-    wanted: &'static [u8],
-}
-
-const fn case(rule: Rule, operands: &'static [&'static [u8]], wanted: &'static [u8]) -> Case {
-    Case {
-        rule,
-        operands,
-        wanted,
-    }
-}
-
-/// The first case whose verdict isn't as wanted, by its place.
-fn first_wrong(alloc: Global, cases: &[Case]) -> Result<Option<usize>, AllocError> {
-    for (k, case) in cases.iter().enumerate() {
-        let xs = operands(alloc, case.operands)?;
-        let verdict = judged(alloc, case.rule, xs.as_slice())?;
-        if !is_wanted(alloc, &verdict, case.wanted)? {
-            return Ok(Some(k));
-        }
-    }
-    Ok(None)
 }

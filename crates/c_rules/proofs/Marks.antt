@@ -1,5 +1,5 @@
 -- What stands at a place of a list of marks, and what follows it.
-use Rattle.std.proofs.Common.{◌≡◌, ℕ, zero, suc, ◌+◌, Option, None, Some, List, [], ◌∷◌, Bool, false, ◌&&◌, drop, slice_get, refl, ap, sym, subst, ◌∙◌}
+use Rattle.std.proofs.Common.{◌≡◌, ℕ, zero, suc, Option, None, Some, List, [], ◌∷◌, false, ◌&&◌, drop, slice_get, refl, ap, sym, ◌∙◌}
 use Rattle.posix_table.specs.declared.kind.Param.{Param}
 use Rattle.posix_table.specs.declared.kind.Param.TheVariants as p
 use Rattle.c_rules.specs.Judgement.{Operand, kind}

@@ -1,5 +1,5 @@
 -- An index and a member (C11 6.5.2.1, 6.5.2.3).
-use Rattle.std.specs.Prelude.{Bool, true, false, if◌then◌else◌, Option, Some, None}
+use Rattle.std.specs.Prelude.{Bool, true, if◌then◌else◌, Option, Some, None}
 use Rattle.c_kinds.specs.Kind.{Kind, int, pointer, array, structure}
 use Rattle.c_rules.specs.declared.misfit.MisfitKind.TheVariants.{UnknownName, KindMismatch}
 use Rattle.c_rules.specs.Judgement.{Judgement, Operand, fits, fails, after_one, after_two, by_one, by_two}

@@ -8,7 +8,6 @@ use Rattle.c_rules.specs.declared.misfit.MisfitKind.{MisfitKind}
 use Rattle.c_rules.specs.declared.misfit.MisfitKind.TheVariants.{UnknownName, KindMismatch, LeftOut, NoMain}
 use Rattle.c_rules.specs.declared.form.Constant.{Constant}
 use Rattle.c_rules.specs.declared.form.Constant.TheVariants.{Zero}
-use Rattle.c_rules.specs.Judgement.{Judgement, fails, silent, unless}
 
 abbrev pub misfit_unless : Bool → MisfitKind → Option MisfitKind
 misfit_unless holds m = if holds then None else Some m

@@ -1,5 +1,5 @@
 -- The forms of expressions: what a rule looks at in an operand besides its kind.
-use Rattle.std.specs.Prelude.{ℕ, List, Bool, true, false, if◌then◌else◌, ◌==◌, Option, Some, None, ℤ, pos, negsuc}
+use Rattle.std.specs.Prelude.{ℕ, List, true, false, if◌then◌else◌, ◌==◌, Option, Some, ℤ, pos}
 use Rattle.c_kinds.specs.Kind.{Kind, array, function_of}
 use Rattle.c_arithmetic.specs.Literals.{integer_number}
 use Rattle.c_tree.specs.declared.tree.UnaryOp.{UnaryOp}

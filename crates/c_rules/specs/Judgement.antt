@@ -1,5 +1,5 @@
 -- What is said of a node of a program, and how it follows from what is said of its parts.
-use Rattle.std.specs.Prelude.{ℕ, suc, List, [], ◌∷◌, Option, Some, None, option_map, map, Bool, true, false, ◌&&◌, if◌then◌else◌}
+use Rattle.std.specs.Prelude.{ℕ, suc, List, [], ◌∷◌, Option, Some, None, Bool, true, false, ◌&&◌, if◌then◌else◌}
 use Rattle.std.specs.List.{list_all}
 use Rattle.c_kinds.specs.Kind.{Kind}
 use Rattle.c_rules.specs.declared.misfit.MisfitKind.{MisfitKind}

@@ -12,7 +12,7 @@ use Rattle.posix_table.specs.declared.kind.ResultKind.TheVariants as r
 use Rattle.posix_table.specs.declared.row.Row.{Row}
 use Rattle.c_rules.specs.declared.form.Constant.{Constant}
 use Rattle.c_rules.specs.declared.misfit.MisfitKind.TheVariants.{WrongCount, KindMismatch}
-use Rattle.c_rules.specs.Judgement.{Judgement, Operand, fits, fails, kind, after_all}
+use Rattle.c_rules.specs.Judgement.{Judgement, Operand, fails, kind, after_all}
 use Rattle.c_rules.specs.Types.{char, long, handler, is_int, is_object_pointer}
 use Rattle.c_rules.specs.Values.{is_null, is_disposition}
 use Rattle.c_rules.specs.Calls.{given}

@@ -1,5 +1,5 @@
 -- Names and literals as expressions (C11 6.5.1).
-use Rattle.std.specs.Prelude.{ℕ, List, Bool, true, false, if◌then◌else◌, Option, Some, None}
+use Rattle.std.specs.Prelude.{ℕ, List, Bool, if◌then◌else◌, Option, Some, None}
 use Rattle.c_kinds.specs.Kind.{Kind, pointer, array, kernel}
 use Rattle.c_arithmetic.specs.Literals.{integer_type}
 use Rattle.c_builtins.specs.declared.names.BuiltIn.{BuiltIn}
@@ -7,7 +7,7 @@ use Rattle.c_builtins.specs.declared.names.BuiltIn.TheVariants as built_in
 use Rattle.c_rules.specs.declared.misfit.MisfitKind.TheVariants.{UnknownName, LeftOut, LibraryAsValue}
 use Rattle.c_rules.specs.declared.names.Denoted.{Denoted}
 use Rattle.c_rules.specs.declared.names.Denoted.TheVariants.{Undeclared, Object, Function, Library, Enumerator, BuiltIn as BuiltInName}
-use Rattle.c_rules.specs.Judgement.{Judgement, fits, fails, silent, waits, by_one}
+use Rattle.c_rules.specs.Judgement.{Judgement, fits, fails, silent, by_one}
 use Rattle.c_rules.specs.Types.{of_type, plain_int, char, handler}
 
 -- The kind of a built-in name (POSIX.1-2017 XBD 13); those that the subset leaves out have none.

@@ -1,5 +1,5 @@
 -- The operators that give a value (C11 6.5.3 to 6.5.15, 6.5.17), and parentheses (6.5.1).
-use Rattle.std.specs.Prelude.{Bool, true, false, ◌&&◌, ◌||◌, if◌then◌else◌, Option, Some, None}
+use Rattle.std.specs.Prelude.{Bool, ◌&&◌, ◌||◌, if◌then◌else◌}
 use Rattle.c_kinds.specs.Kind.{Kind, void, int, pointer, function_of, array, decayed}
 use Rattle.c_arithmetic.specs.Types.{promoted, common}
 use Rattle.c_tree.specs.declared.tree.UnaryOp.{UnaryOp}
@@ -7,7 +7,6 @@ use Rattle.c_tree.specs.declared.tree.UnaryOp.TheVariants as u
 use Rattle.c_tree.specs.declared.tree.BinaryOp.{BinaryOp}
 use Rattle.c_tree.specs.declared.tree.BinaryOp.TheVariants as b
 use Rattle.c_rules.specs.declared.misfit.MisfitKind.TheVariants.{KindMismatch, LeftOut, NotAssignable}
-use Rattle.c_rules.specs.declared.form.Form.{Form}
 use Rattle.c_rules.specs.declared.form.Constant.{Constant}
 use Rattle.c_rules.specs.declared.form.Designates.{Designates}
 use Rattle.c_rules.specs.declared.form.Designates.TheVariants as d

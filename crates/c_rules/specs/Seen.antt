@@ -1,6 +1,5 @@
 -- The plain data that values of the program stand for.
-use Rattle.std.specs.Prelude.{List, map, Option, option_map}
-use Rattle.c_kinds.specs.Kind.{Kind}
+use Rattle.std.specs.Prelude.{List, map}
 use Rattle.c_kinds.specs.View.{view}
 use Rattle.c_rules.specs.Judgement as plain
 use Rattle.c_rules.specs.Judgement.{Judgement, fits, fails, waits, silent}

@@ -1,5 +1,5 @@
 -- Statements by the kinds of their expressions (C11 6.8). A statement has no kind by its form.
-use Rattle.std.specs.Prelude.{Bool, true, false, if◌then◌else◌, Option, Some, None}
+use Rattle.std.specs.Prelude.{Bool, true, if◌then◌else◌, Option, Some, None}
 use Rattle.c_kinds.specs.Kind.{Kind, void}
 use Rattle.c_rules.specs.declared.misfit.MisfitKind.TheVariants.{KindMismatch}
 use Rattle.c_rules.specs.declared.form.Constant.{Constant}

@@ -1,6 +1,6 @@
 -- The kinds that rules give, and what they ask of kinds.
-use Rattle.std.specs.Prelude.{ℕ, Bool, true, false, ◌&&◌, ◌||◌, ◌==◌, List, [], ◌∷◌}
-use Rattle.c_kinds.specs.Kind.{Kind, void, int, pointer, function, array, kernel, word, decayed}
+use Rattle.std.specs.Prelude.{ℕ, Bool, true, false, [], ◌∷◌}
+use Rattle.c_kinds.specs.Kind.{Kind, void, int, pointer, function, word}
 use Rattle.c_kinds.specs.Word.{is_scalar, decayed_word, same}
 use Rattle.c_kinds.specs.declared.word.Word.TheVariants as w
 use Rattle.c_arithmetic.specs.declared.types.IntType.{IntType}

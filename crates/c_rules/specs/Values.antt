@@ -1,6 +1,6 @@
 -- Values and the places that they are stored into: conversion, assignment, initialisation, return (C11 6.5.16, 6.7.9, 6.8.6.4).
 use Rattle.std.specs.Prelude.{Bool, true, false, ◌&&◌, ◌||◌, not, if◌then◌else◌, ◌==◌, Option, Some, None}
-use Rattle.c_kinds.specs.Kind.{Kind, int, pointer, array, kernel, word}
+use Rattle.c_kinds.specs.Kind.{Kind, int, pointer, array, word}
 use Rattle.c_kinds.specs.Word.{is_pointer, same}
 use Rattle.c_kinds.specs.declared.word.Word.TheVariants as w
 use Rattle.c_kinds.specs.Matching.{matches}

@@ -117,12 +117,25 @@ pub(crate) struct Case {
 }
 
 /// The first case whose verdict isn't as wanted, by its place.
-pub(crate) fn first_wrong(alloc: Global, cases: &[Case]) -> Result<Option<usize>, AllocError> {
+fn first_wrong(alloc: Global, cases: &[Case]) -> Result<Option<usize>, AllocError> {
     for (k, case) in cases.iter().enumerate() {
         let xs = operands(alloc, case.on)?;
         let verdict = judged(alloc, case.rule, xs.as_slice())?;
         if !is_wanted(alloc, &verdict, case.gives)? {
             return Ok(Some(k));
+        }
+    }
+    Ok(None)
+}
+
+/// The first case of the first table that has one whose verdict isn't as wanted, by the places of both.
+pub(crate) fn wrong_in(
+    alloc: Global,
+    tables: &[&[Case]],
+) -> Result<Option<(usize, usize)>, AllocError> {
+    for (t, table) in tables.iter().enumerate() {
+        if let Some(k) = first_wrong(alloc, table)? {
+            return Ok(Some((t, k)));
         }
     }
     Ok(None)

@@ -53,26 +53,54 @@ fn first_wrong_name(alloc: Global, cases: &[NameCase]) -> Result<Option<usize>, 
     Ok(None)
 }
 
-/// Whether literals have their kinds (C11 6.4.4.1p5, 6.4.4.4p10, 6.4.5p6).
-fn are_literals(alloc: Global) -> Result<bool, AllocError> {
-    Ok(
-        is_wanted(alloc, &c_rules::integer(b"7"), b"i")?
-            && is_wanted(alloc, &c_rules::integer(b"0xffffffff"), b"n")?
-            && is_wanted(alloc, &c_rules::integer(b"4294967295"), b"l")?
-            && is_wanted(alloc, &c_rules::integer(b"0ul"), b"u")?
-            && is_wanted(alloc, &c_rules::character(), b"i")?
-            && is_wanted(alloc, &c_rules::text(alloc)?, b"c[")?
-            && is_wanted(alloc, &c_rules::size_of_type(), b"u")?
-            && is_wanted(alloc, &c_rules::return_nothing(&CType::Void), b"-")?
-            && is_wanted(alloc, &c_rules::return_nothing(&CType::Set), b"!5")?,
-    )
+#[derive(Clone, Copy)]
+enum Literal {
+    Integer(&'static [u8]),
+    Character,
+    Text,
+}
+
+fn judged_literal(alloc: Global, of: Literal) -> Result<Verdict, AllocError> {
+    match of {
+        Literal::Integer(bytes) => Ok(c_rules::integer(bytes)),
+        Literal::Character => Ok(c_rules::character()),
+        Literal::Text => c_rules::text(alloc),
+    }
+}
+
+/// Literals, and the descriptions of their kinds (C11 6.4.4.1p5, 6.4.4.4p10, 6.4.5p6).
+#[rattlefmt::skip]
+const LITERALS: [(Literal, &[u8]); 6] = [
+    (Literal::Integer(b"7"), b"i"),
+    (Literal::Integer(b"0xffffffff"), b"n"),
+    (Literal::Integer(b"4294967295"), b"l"),
+    (Literal::Integer(b"0ul"), b"u"),
+    (Literal::Character, b"i"),
+    (Literal::Text, b"c["),
+];
+
+fn first_wrong_literal(
+    alloc: Global,
+    cases: &[(Literal, &[u8])],
+) -> Result<Option<usize>, AllocError> {
+    for (k, (of, gives)) in cases.iter().enumerate() {
+        let verdict = judged_literal(alloc, *of)?;
+        if !is_wanted(alloc, &verdict, gives)? {
+            return Ok(Some(k));
+        }
+    }
+    Ok(None)
 }
 
 #[test]
-fn names_and_literals(rt: HostRuntime) -> Result<(), Fail> {
-    let alloc = rt.alloc();
-    assert_eq!(rt; first_wrong_name(alloc, &NAMES)?, None);
-    assert!(rt; are_literals(alloc)?);
+fn names_by_what_they_stand_for(rt: HostRuntime) -> Result<(), Fail> {
+    assert_eq!(rt; first_wrong_name(rt.alloc(), &NAMES)?, None);
+    Ok(())
+}
+
+#[test]
+fn literals_have_their_kinds(rt: HostRuntime) -> Result<(), Fail> {
+    assert_eq!(rt; first_wrong_literal(rt.alloc(), &LITERALS)?, None);
     Ok(())
 }
 
@@ -95,21 +123,32 @@ fn designated(alloc: Global, text: &[u8], step: u8) -> Result<u8, AllocError> {
     })
 }
 
-/// Whether parts of const objects are told from what const pointers point to (C11 6.3.2.1p1, 6.5.1p5, 6.5.3.2p4).
-fn are_parts(alloc: Global) -> Result<bool, AllocError> {
-    Ok(
-        designated(alloc, b"ci[", b'[')? == b'c'
-            && designated(alloc, b"ci[", b'*')? == b'c'
-            && designated(alloc, b"c1", b'.')? == b'c'
-            && designated(alloc, b"c1", b'(')? == b'c'
-            && designated(alloc, b"ci*", b'[')? == b'o'
-            && designated(alloc, b"ci*", b'*')? == b'o'
-            && designated(alloc, b"pi[", b'[')? == b'o'
-            && designated(alloc, b"fivf", b'*')? == b'n'
-            && designated(alloc, b"fivf", b'(')? == b'n'
-            && designated(alloc, b"ei", b'(')? == b'e'
-            && designated(alloc, b"pi", b'-')? == b'n',
-    )
+/// Parts of const objects, and what const pointers point to (C11 6.3.2.1p1, 6.5.1p5, 6.5.3.2p4): an operand, a step, and what is designated.
+#[rattlefmt::skip]
+const DESIGNATED: [(&[u8], u8, u8); 11] = [
+    (b"ci[", b'[', b'c'),
+    (b"ci[", b'*', b'c'),
+    (b"c1", b'.', b'c'),
+    (b"c1", b'(', b'c'),
+    (b"ci*", b'[', b'o'),
+    (b"ci*", b'*', b'o'),
+    (b"pi[", b'[', b'o'),
+    (b"fivf", b'*', b'n'),
+    (b"fivf", b'(', b'n'),
+    (b"ei", b'(', b'e'),
+    (b"pi", b'-', b'n'),
+];
+
+fn first_wrong_place(
+    alloc: Global,
+    cases: &[(&[u8], u8, u8)],
+) -> Result<Option<usize>, AllocError> {
+    for (k, (text, step, wanted)) in cases.iter().enumerate() {
+        if designated(alloc, text, *step)? != *wanted {
+            return Ok(Some(k));
+        }
+    }
+    Ok(None)
 }
 
 fn is_zero(form: Form) -> bool {
@@ -117,14 +156,9 @@ fn is_zero(form: Form) -> bool {
 }
 
 /// Whether the constant 0 is told by its value in any spelling, and not in parentheses.
-fn are_zeros() -> bool {
-    is_zero(Form::integer(b"0"))
-        && is_zero(Form::integer(b"0x0u"))
-        && is_zero(Form::integer(b"00L"))
-        && !is_zero(Form::integer(b"1"))
-        && !is_zero(Form::integer(b"0x10"))
-        && !is_zero(Form::integer(b"18446744073709551615u"))
-        && !is_zero(Form::integer(b"0").paren())
+fn are_zeros(zeros: &[&[u8]], others: &[&[u8]]) -> bool {
+    zeros.iter().all(|z| is_zero(Form::integer(z)) && !is_zero(Form::integer(z).paren()))
+        && others.iter().all(|z| !is_zero(Form::integer(z)))
         && !is_zero(Form::plain())
 }
 
@@ -159,24 +193,34 @@ fn are_named_forms() -> bool {
 #[test]
 fn forms_of_expressions(rt: HostRuntime) -> Result<(), Fail> {
     let alloc = rt.alloc();
-    assert!(rt; are_parts(alloc)?);
-    assert!(rt; are_zeros());
+    assert_eq!(rt; first_wrong_place(alloc, &DESIGNATED)?, None);
+    assert!(rt;
+        are_zeros(
+            &[b"0", b"0x0u", b"00L"],
+            &[b"1", b"0x10", b"18446744073709551615u"]
+        )
+    );
     assert!(rt; are_named_forms());
     Ok(())
 }
 
-#[test]
-fn the_first_misfit_is_told(rt: HostRuntime) -> Result<(), Fail> {
-    let alloc = rt.alloc();
+fn verdicts(alloc: Global) -> Result<Vec<Verdict>, AllocError> {
     let mut all = Vec::new(alloc);
     all.push(Verdict::Waits)?;
     all.push(Verdict::Silent)?;
-    assert_eq!(rt; c_rules::first_misfit(all.as_slice()), None);
     all.push(Verdict::Fails(MisfitKind::LeftOut))?;
     all.push(Verdict::Fails(MisfitKind::UnknownName))?;
-    assert_eq!(rt;
-        c_rules::first_misfit(all.as_slice()),
-        Some((2, MisfitKind::LeftOut))
-    );
+    Ok(all)
+}
+
+fn told(all: &[Verdict], count: usize) -> Option<(usize, MisfitKind)> {
+    c_rules::first_misfit(all.get(..count).unwrap_or(&[]))
+}
+
+#[test]
+fn the_first_misfit_is_told(rt: HostRuntime) -> Result<(), Fail> {
+    let all = verdicts(rt.alloc())?;
+    assert_eq!(rt; told(all.as_slice(), 2), None);
+    assert_eq!(rt; told(all.as_slice(), 4), Some((2, MisfitKind::LeftOut)));
     Ok(())
 }

@@ -1,6 +1,6 @@
 //! Operators of one to three operands.
 
-use crate::asked::{Case, Rule, first_wrong};
+use crate::asked::{Case, Rule, wrong_in};
 use c_tree::{BinaryOp, UnaryOp};
 use std::test::Fail;
 
@@ -158,9 +158,7 @@ const CHOICES: [Case; 25] = [
 
 #[test]
 fn operators_by_the_kinds_of_their_operands(rt: HostRuntime) -> Result<(), Fail> {
-    let alloc = rt.alloc();
-    assert_eq!(rt; first_wrong(alloc, &UNARY)?, None);
-    assert_eq!(rt; first_wrong(alloc, &BINARY)?, None);
-    assert_eq!(rt; first_wrong(alloc, &CHOICES)?, None);
+    let tables: [&[Case]; 3] = [&UNARY, &BINARY, &CHOICES];
+    assert_eq!(rt; wrong_in(rt.alloc(), &tables)?, None);
     Ok(())
 }

@@ -1,6 +1,6 @@
 //! Statements and declarations.
 
-use crate::asked::{Case, Rule, first_wrong};
+use crate::asked::{Case, Rule, wrong_in};
 use c_kinds::CType;
 use c_rules::MisfitKind;
 use std::test::Fail;
@@ -106,11 +106,9 @@ const DECLARATIONS: [Case; 65] = [
     Case { rule: Rule::Main, on: b"s", gives: b"!8" },
 ];
 
-/// Whether a part of a list is told that has no member to fill (C11 6.7.9p2, p7).
-fn are_parts_told() -> bool {
-    let int = CType::Int(32, true);
-    c_rules::part_misfit(true, Some(&int)).is_none()
-        && c_rules::part_misfit(false, Some(&int)).is_none()
+/// Whether a part of a list is told that has no member to fill (C11 6.7.9p2, p7), and a return without an expression (6.8.6.4p1).
+fn are_told(int: &CType) -> bool {
+    c_rules::part_misfit(true, Some(int)).is_none()
         && matches!(
             c_rules::part_misfit(true, None),
             Some(MisfitKind::UnknownName)
@@ -119,13 +117,17 @@ fn are_parts_told() -> bool {
             c_rules::part_misfit(false, None),
             Some(MisfitKind::KindMismatch)
         )
+        && c_rules::return_nothing(&CType::Void).misfit().is_none()
+        && matches!(
+            c_rules::return_nothing(int).misfit(),
+            Some(MisfitKind::KindMismatch)
+        )
 }
 
 #[test]
 fn statements_and_declarations(rt: HostRuntime) -> Result<(), Fail> {
-    let alloc = rt.alloc();
-    assert_eq!(rt; first_wrong(alloc, &STATEMENTS)?, None);
-    assert_eq!(rt; first_wrong(alloc, &DECLARATIONS)?, None);
-    assert!(rt; are_parts_told());
+    let tables: [&[Case]; 2] = [&STATEMENTS, &DECLARATIONS];
+    assert_eq!(rt; wrong_in(rt.alloc(), &tables)?, None);
+    assert!(rt; are_told(&CType::Int(32, true)));
     Ok(())
 }

@@ -1,6 +1,6 @@
 //! Assignments, accesses, calls and casts.
 
-use crate::asked::{Case, Rule, first_wrong};
+use crate::asked::{Case, Rule, wrong_in};
 use c_tree::AssignOp;
 use std::test::Fail;
 
@@ -162,10 +162,7 @@ const CASTS: [Case; 25] = [
 
 #[test]
 fn assignments_accesses_calls_and_casts(rt: HostRuntime) -> Result<(), Fail> {
-    let alloc = rt.alloc();
-    assert_eq!(rt; first_wrong(alloc, &STORES)?, None);
-    assert_eq!(rt; first_wrong(alloc, &CASTS)?, None);
-    assert_eq!(rt; first_wrong(alloc, &ACCESSES)?, None);
-    assert_eq!(rt; first_wrong(alloc, &CALLS)?, None);
+    let tables: [&[Case]; 4] = [&STORES, &CASTS, &ACCESSES, &CALLS];
+    assert_eq!(rt; wrong_in(rt.alloc(), &tables)?, None);
     Ok(())
 }

@@ -1,4 +1,4 @@
-use Rattle.std.proofs.Common.{rules, arith, ◌≡◌, ◌<◌, ◌≤◌, ◌+◌, ◌∷◌, ◌&&◌, Bool, true, false, drop, ap, sym, ◌∙◌}
+use Rattle.std.proofs.Common.{rules, ◌+◌, ◌∷◌, ◌&&◌, drop, ap, sym, ◌∙◌}
 use Rattle.std.proofs.lemmas.List.{drop_more}
 use Rattle.c_rules.specs.LibraryCalls as rule
 use Rattle.c_rules.specs.Marks.{next_place}

@@ -1,5 +1,5 @@
 -- Lists of codes that rise: what is in them, with a code more, and within one another.
-use Rattle.std.proofs.Common.{inl, inr, ◌≡◌, ℕ, zero, suc, ◌+◌, ◌<◌, ◌≤◌, ◌^◌, List, [], ◌∷◌, length, drop, get_or, refl, ap, sym, zero-add, ◌∙◌, subst, arith, Bool, true, false, cond, nat_lt, ◌==◌, ◌||◌}
+use Rattle.std.proofs.Common.{inl, inr, ◌≡◌, ℕ, zero, suc, ◌+◌, ◌<◌, ◌≤◌, ◌^◌, List, [], ◌∷◌, drop, refl, ap, sym, zero-add, ◌∙◌, subst, arith, Bool, true, false, cond, nat_lt, ◌==◌, ◌||◌}
 use Rattle.std.specs.Prelude.{◌↔◌, Option, None, Some, IfSome, slice_get}
 use Rattle.std.specs.List.{insert}
 use Rattle.std.proofs.lemmas.Bool.{eqb-true, cases_lt}
@@ -27,11 +27,6 @@ absent_below n (c ∷ codes) code h lt =
     let rest = absent_below (c + 1) codes code h.2 (omega arith) in
     let first : (c == code) ≡ false = grind (arith, nat_tests) in
     rw first rest
-
-pub codes_range : (n : ℕ) (codes : List ℕ) (k d : ℕ) → AreCodes n codes → k < length codes → get_or codes k d < 2 ^ 32 + 2
-codes_range n [] k d h lt = absurd (omega arith)
-codes_range n (c ∷ codes) zero d h lt = h.1
-codes_range n (c ∷ codes) (suc k) d h lt = codes_range (c + 1) codes k d h.2 (omega arith)
 
 -- ---- one more code
 pub has-with : (code : ℕ) (codes : List ℕ) (q : ℕ) → has_code (with_code code codes) q ≡ ((code == q) || has_code codes q)

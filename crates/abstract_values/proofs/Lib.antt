@@ -2,6 +2,7 @@ pub mod Numbers
 pub mod Sets
 pub mod Places
 pub mod Codes
+pub mod Merges
 pub mod FunctionOrder
 pub mod Keys
 pub mod Values

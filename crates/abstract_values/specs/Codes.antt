@@ -15,6 +15,11 @@ abbrev pub with_code : ℕ → List ℕ → List ℕ
 with_code code [] = code ∷ []
 with_code code (c ∷ codes) = cond (nat_lt c code) (c ∷ with_code code codes) (cond (c == code) (c ∷ codes) (code ∷ c ∷ codes))
 
+-- what is behind the code where a list begins with it, and else the list
+abbrev pub after : ℕ → List ℕ → List ℕ
+after code [] = []
+after code (c ∷ codes) = cond (c == code) codes (c ∷ codes)
+
 -- the first list with the codes of the second too
 abbrev pub codes_join : List ℕ → List ℕ → List ℕ
 codes_join codes [] = codes

@@ -1,8 +1,8 @@
-ghost use Rattle.std.specs.Prelude.{◌≡◌, ◌↔◌, ℕ, ◌+◌, ◌^◌, ◌<◌, ◌≤◌, List, [], ◌∷◌, drop, length, slice_get, OnOk, OnErr, IfOk, IfSome, IsTrue, not, nat_lt};
+ghost use Rattle.std.specs.Prelude.{◌≡◌, ◌↔◌, ℕ, ◌+◌, ◌^◌, ◌<◌, ◌≤◌, List, [], ◌∷◌, ◌++◌, drop, length, slice_get, OnOk, OnErr, IfOk, IfSome, IsTrue, not, nat_lt};
 ghost use Rattle.std.specs.Bool.{OnFalse};
-ghost use Rattle.std.specs.List.{insert};
+ghost use Rattle.std.specs.List.{insert, slice_range};
 ghost use Rattle.abstract_values.specs.Places.{leading};
-ghost use Rattle.abstract_values.specs.Codes.{AreCodes, has_code, with_code, codes_join, CodesUnder};
+ghost use Rattle.abstract_values.specs.Codes.{AreCodes, has_code, with_code, after, codes_join, CodesUnder};
 ghost use Rattle.abstract_values.specs.Functions.{FnsUnder, fns_join, is_any_fns, HasCodes};
 
 use base_core::NoMemory;
@@ -85,11 +85,8 @@ impl FnList {
     pub(crate) fn join(&self, alloc: Global, o: &FnList) -> Result<FnList, NoMemory>
         ensures { IfOk result (λ list. list ≡ codes_join self.now o.now) }
     {
-        let mut all = self.copy(alloc)?;
-        for &code in &o.codes {
-            all.add(code)?;
-        }
-        Ok(all)
+        let codes = join_codes(alloc, &self.codes, &o.codes)?;
+        Ok(FnList { codes })
     }
 }
 
@@ -114,7 +111,8 @@ fn code_at(codes: &[u64], k: usize) -> Option<u64>
 
 /// Whether the code stands at this place.
 fn is_at(codes: &[u64], place: usize, code: u64) -> bool
-    ensures { IsTrue result ↔ (slice_get codes.now place ≡ Some code) }
+    ensures at { IsTrue result ↔ (slice_get codes.now place ≡ Some code) }
+    ensures within { IsTrue result → place < length codes.now }
 {
     match codes.get(place) {
         Some(there) => *there == code,
@@ -165,6 +163,68 @@ fn are_below(codes: &[u64], others: &[u64]) -> bool
         }
     }
     true
+}
+
+/// The place behind a code that stands at this place, or the place itself.
+fn place_after(codes: &[u64], place: usize, code: u64) -> usize
+    requires { place ≤ length codes.now }
+    ensures place { drop result codes.now ≡ after code (drop place codes.now) }
+    ensures within { result ≤ length codes.now }
+{
+    if is_at(codes, place, code) {
+        return place + 1;
+    }
+    place
+}
+
+/// Appends the codes between two places, and a code.
+fn push_between(
+    all: &mut Vec<u64>,
+    codes: &[u64],
+    start: usize,
+    end: usize,
+    code: u64,
+) -> Result<(), NoMemory>
+    requires start { start ≤ end }
+    requires end { end ≤ length codes.now }
+    ensures { OnOk result (all.new.items ≡ all.old.items ++ (slice_range codes.now start end ++ code ∷ [])) }
+{
+    let Ok(()) = all.extend_from_slice(&codes[start..end]) else {
+        return Err(NoMemory);
+    };
+    match all.push(code) {
+        Ok(()) => Ok(()),
+        Err(_) => Err(NoMemory),
+    }
+}
+
+/// Appends the codes from a place on.
+fn push_rest(all: &mut Vec<u64>, codes: &[u64], start: usize) -> Result<(), NoMemory>
+    requires { start ≤ length codes.now }
+    ensures { OnOk result (all.new.items ≡ all.old.items ++ drop start codes.now) }
+{
+    match all.extend_from_slice(&codes[start..]) {
+        Ok(()) => Ok(()),
+        Err(_) => Err(NoMemory),
+    }
+}
+
+/// The codes of two lists, which rise.
+fn join_codes(alloc: Global, left: &[u64], right: &[u64]) -> Result<Vec<u64>, NoMemory>
+    requires left { AreCodes 0 left.now }
+    requires right { AreCodes 0 right.now }
+    ensures join { IfOk result (λ all. all.items ≡ codes_join left.now right.now) }
+    ensures codes { IfOk result (λ all. AreCodes 0 all.items) }
+{
+    let mut all = Vec::new(alloc);
+    let mut place = 0;
+    for &code in right {
+        let next = place_of(left, place, code);
+        push_between(&mut all, left, place, next, code)?;
+        place = place_after(left, next, code);
+    }
+    push_rest(&mut all, left, place)?;
+    Ok(all)
 }
 
 /// What is known of a function pointer or of a signal's disposition.

@@ -11,14 +11,14 @@ returns-then-not-is_at c = (
       let walk = (walk_is_under 0 0 c.args.codes.now c.args.others.now c.requires.codes c.requires.others).1 under in
       let here = drop_more c.args.codes.now c.loop-code.code-index 0 c.loop-code-test.true in
       let met = left_first lower equal _ _ _ _ _ _ c.loop-code.invariant here c.place_of-place.ensures.place walk in
-      let stands = c.is_at.ensures.1 (met_at _ _ met) in
+      let stands = c.is_at.ensures.at.1 (met_at _ _ met) in
       let not = c.if-not-is_at.true in absurd cc,
 )
 
 pub loop-code-preserved : goal.loop-code-preserved
 loop-code-preserved c =
     let here = drop_more c.args.codes.now c.loop-code.code-index 0 c.loop-code-test.true in
-    left_met lower equal _ _ _ _ _ _ c.loop-code.invariant here c.place_of-place.ensures.place c.place_of-place.ensures.within (at_met _ _ (c.is_at.ensures.0 c.if-not-is_at.false))
+    left_met lower equal _ _ _ _ _ _ c.loop-code.invariant here c.place_of-place.ensures.place c.place_of-place.ensures.within (at_met _ _ (c.is_at.ensures.at.0 c.if-not-is_at.false))
 
 pub returns : goal.returns
 returns c =

@@ -4,3 +4,7 @@ pub mod Types
 pub mod Behind
 pub mod Scopes
 pub mod Start
+pub mod Values
+pub mod Seen
+pub mod Words
+pub mod Tags

@@ -100,14 +100,15 @@ object_names (declaration_item d ∷ is) = defined_names d.storage d.names ++ ob
 -- before the first item of a unit, over a table with rows of these names
 abbrev pub start : List Name → List ItemTree → Environment
 start rows items = record {
-    entities = implementation_entities rows;
-    names = one_block;
-    implementation = numbered 0 (implementation_names rows) one_block;
-    linked = one_block;
-    tags = [] ∷ numbered 0 tags one_block;
-    tagged = structure_tags 0 tags;
-    structures = map built_in_structure structures;
-    variables = 0;
-    inside = None;
-    functions = numbered 0 (function_names items) one_block;
-    objects = numbered 0 (object_names items) one_block }
+  entities = implementation_entities rows;
+  names = one_block;
+  implementation = numbered 0 (implementation_names rows) one_block;
+  linked = one_block;
+  tags = [] ∷ numbered 0 tags one_block;
+  tagged = structure_tags 0 tags;
+  structures = map built_in_structure structures;
+  variables = 0;
+  inside = None;
+  functions = numbered 0 (function_names items) one_block;
+  objects = numbered 0 (object_names items) one_block;
+}

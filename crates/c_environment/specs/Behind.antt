@@ -1,17 +1,15 @@
 -- What the names stand for behind each part of a program (C11 6.2.1): a name is in scope from the end of its declarator on, a tag from where
 -- it appears, an enumerator from behind its value (p7). Behind a part that breaks a rule the names stand for anything.
-use Rattle.std.specs.Prelude.{ℕ, List, [], ◌∷◌, ◌++◌, Option, Some, None, ℤ, Bool, true, false, is_some, if◌then◌else◌}
+use Rattle.std.specs.Prelude.{ℕ, List, [], ◌∷◌, Option, Some, None, ℤ, Bool, true, false}
 use Rattle.c_kinds.specs.Kind.{Kind}
 use Rattle.c_scopes.specs.Scope.{Name}
-use Rattle.c_tree.specs.declared.tree.Storage.{Storage}
-use Rattle.c_tree.specs.declared.tree.Storage.TheVariants as st
-use Rattle.c_tree.specs.Tree.{Expression, comma, assign, choose, binary, cast, unary, before, size_of, size_of_type, index, call, dot, arrow, after, name, integer, character, text, paren, Expressions, no_expressions, expressions, Sizes, no_sizes, open_size, size, TypeTree, typed, Specifiers, no_specifiers, specifiers, Specifier, struct_tag, struct_of, enum_of, Members as MemberTrees, no_members, member, Declarators, no_declarators, declarators, Enumerators, no_enumerators, enumerator, enumerator_with, DeclaratorTree, plain, array, function, pointer, Parameters, no_parameters, parameters, ParameterForm, named_form, bare_form, BareTree, bare_stars, bare_pointer, Initializer, single, listed, Initializers, no_initializers, initializers, NamedTree, DeclarationTree, ForStartTree, start_declaration, start_expression, StatementTree, block, declaration, expression_statement, if_statement, if_else_statement, while_statement, do_statement, for_statement, switch_statement, case_label, default_label, named_label, break_statement, continue_statement, return_statement, goto_statement, Statements, no_statements, statements, FunctionTree, ItemTree, function_item, declaration_item}
+use Rattle.c_tree.specs.Tree.{Expression, comma, assign, choose, binary, cast, unary, before, size_of, size_of_type, index, call, dot, arrow, after, name, integer, character, text, paren, Expressions, no_expressions, expressions, Sizes, no_sizes, open_size, size, TypeTree, typed, Specifiers, no_specifiers, specifiers, Specifier, struct_tag, struct_of, enum_of, Members as MemberTrees, no_members, member, Declarators, no_declarators, declarators, Enumerators, no_enumerators, enumerator, enumerator_with, DeclaratorTree, plain, array, function, pointer, Parameters, no_parameters, parameters, ParameterForm, named_form, bare_form, BareTree, bare_stars, bare_pointer}
 use Rattle.c_tree.specs.DeclaredNames.{declarator_name}
 use Rattle.c_constants.specs.Constants as constants
 use Rattle.c_environment.specs.Entity as e
 use Rattle.c_environment.specs.Entity.{DeclaredType, Members, with_member}
-use Rattle.c_environment.specs.Environment.{Environment, value, tag, tag_here, entered, left, within_function, function_number, at_file_scope, with_entity, with_function, with_variable, with_linked_variable, with_tag, with_optional_tag, with_structure, completed}
-use Rattle.c_environment.specs.Types.{structure_number, defined_structure, specified, pointed, pointer_to, arrayed, function_type, pointer_type, adjusted}
+use Rattle.c_environment.specs.Environment.{Environment, value, tag, tag_here, entered, left, with_entity, with_variable, with_tag, with_optional_tag, with_structure, completed}
+use Rattle.c_environment.specs.Types.{structure_number, defined_structure, specified, pointed, arrayed, function_type, pointer_type, adjusted}
 
 -- ---- tags (6.7.2.3)
 

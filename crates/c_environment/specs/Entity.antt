@@ -1,5 +1,5 @@
 -- What declarations declare (C11 6.2.1p1, 6.7).
-use Rattle.std.specs.Prelude.{ℕ, List, [], ◌∷◌, ◌++◌, length, Option, ℤ, Bool, true, false, ◌||◌, slice_get}
+use Rattle.std.specs.Prelude.{ℕ, List, [], ◌∷◌, ◌++◌, length, Option, ℤ, Bool, false, slice_get}
 use Rattle.std.specs.Option.{option_and_then}
 use Rattle.c_kinds.specs.Kind.{Kind}
 use Rattle.c_builtins.specs.declared.names.BuiltIn.{BuiltIn}

@@ -1,11 +1,10 @@
 -- What the names at a place of the text stand for (C11 6.2.1 to 6.2.3), and what a declaration makes of it.
-use Rattle.std.specs.Prelude.{ℕ, suc, ◌+◌, List, [], ◌∷◌, ◌++◌, length, Option, Some, None, ℤ, pos, Bool, true, false, is_some, is_none, slice_get, set, if◌then◌else◌}
+use Rattle.std.specs.Prelude.{ℕ, suc, List, [], ◌∷◌, ◌++◌, length, Option, Some, None, ℤ, pos, Bool, true, false, is_some, is_none, slice_get, set}
 use Rattle.std.specs.Option.{option_and_then}
-use Rattle.c_kinds.specs.Kind.{Kind}
 use Rattle.c_scopes.specs.Scope as scope
 use Rattle.c_scopes.specs.Scope.{Name, Scope, look_up, declared_here, declare, declare_around, or_else}
 use Rattle.c_builtins.specs.declared.names.BuiltIn.TheVariants as b
-use Rattle.c_environment.specs.Entity.{DeclaredType, Variable, Entity, variable, parameter, function, enumerator, type_name, built_in, Members, no_members, Structure}
+use Rattle.c_environment.specs.Entity.{DeclaredType, Entity, variable, function, enumerator, type_name, built_in, Members, no_members, Structure}
 
 pub record Environment : Type 0 where
   -- the things declared so far, in order of the text, behind those of the implementation

@@ -8,3 +8,5 @@ pub mod Values
 pub mod Seen
 pub mod Words
 pub mod Tags
+pub mod Counted
+pub mod Fill

@@ -1,16 +1,15 @@
 -- What the names stand for before the first item: those of the implementation; and what the unit defines (C11 6.9p3, 6.9.2).
-use Rattle.std.specs.Prelude.{ℕ, suc, ◌+◌, List, [], ◌∷◌, ◌++◌, map, length, Option, Some, None, is_some, Bool, true, false, bytes_eq, codes, if◌then◌else◌}
+use Rattle.std.specs.Prelude.{ℕ, suc, List, [], ◌∷◌, ◌++◌, map, Option, Some, None, is_some, Bool, true, false, bytes_eq, codes, if◌then◌else◌}
 use Rattle.c_kinds.specs.Kind as k
 use Rattle.c_kinds.specs.Kind.{Kind}
 use Rattle.c_scopes.specs.Scope.{Name, Scope, declare}
-use Rattle.c_builtins.specs.declared.names.BuiltIn.{BuiltIn}
 use Rattle.c_builtins.specs.declared.types.BuiltInType.{BuiltInType}
 use Rattle.c_builtins.specs.declared.types.BuiltInType.TheVariants as t
 use Rattle.c_builtins.specs.Names.{built_ins}
 use Rattle.c_builtins.specs.Types.{type_names, tags, structures}
 use Rattle.c_tree.specs.declared.tree.Storage.{Storage}
 use Rattle.c_tree.specs.declared.tree.Storage.TheVariants as st
-use Rattle.c_tree.specs.Tree.{DeclaratorTree, plain, array, function, pointer, NamedTree, DeclarationTree, ItemTree, function_item, declaration_item}
+use Rattle.c_tree.specs.Tree.{DeclaratorTree, function, NamedTree, ItemTree, function_item, declaration_item}
 use Rattle.c_tree.specs.DeclaredNames.{declarator_name}
 use Rattle.c_environment.specs.Entity as e
 use Rattle.c_environment.specs.Entity.{DeclaredType, Entity, Members, no_members, with_member, Structure}

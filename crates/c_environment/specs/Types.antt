@@ -1,11 +1,10 @@
 -- Which types specifiers and declarators give (C11 6.7.2, 6.7.3, 6.7.6), where they declare nothing that counts for it but tags.
 use Rattle.std.specs.Prelude.{ℕ, List, [], ◌∷◌, length, Option, Some, None, Bool, true, false, not, ◌||◌, if◌then◌else◌}
-use Rattle.c_tree.specs.declared.tree.Qual.{Qual}
 use Rattle.c_tree.specs.declared.tree.Qual.TheVariants as q
 use Rattle.c_kinds.specs.Kind as kinds
 use Rattle.c_kinds.specs.Kind.{Kind}
 use Rattle.c_scopes.specs.Scope.{Name}
-use Rattle.c_tree.specs.Tree.{Quals, Stars, Sizes, no_sizes, open_size, size, Specifiers, no_specifiers, specifiers, Specifier, const_word, volatile_word, void_word, char_word, short_word, int_word, long_word, signed_word, unsigned_word, type_name, struct_tag, struct_of, enum_tag, enum_of}
+use Rattle.c_tree.specs.Tree.{Quals, Stars, Sizes, no_sizes, open_size, size, Specifiers, no_specifiers, specifiers, Specifier, const_word, volatile_word, void_word, char_word, short_word, long_word, unsigned_word, type_name, struct_tag, struct_of, enum_tag, enum_of}
 use Rattle.c_environment.specs.Entity.{DeclaredType, simple}
 use Rattle.c_environment.specs.Environment.{Environment, entity, type_of, tag, tag_here}
 

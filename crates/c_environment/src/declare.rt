@@ -1,9 +1,8 @@
 //! What a declaration makes of what the names stand for. Where one of these gives Err, there is not enough memory, and the environment is
 //! of no use.
 
-ghost use Rattle.std.specs.Prelude.{◌≡◌, length, IfOk, OnOk};
+ghost use Rattle.std.specs.Prelude.{◌≡◌, true, IfOk, OnOk};
 ghost use Rattle.c_environment.specs.Environment as plain;
-ghost use Rattle.c_environment.specs.Entity.{function};
 ghost use Rattle.c_environment.specs.Seen.{seen_type, seen_entity, seen_members, seen_environment};
 
 use crate::entity::{DeclaredType, Entity, Variable};
@@ -67,11 +66,7 @@ impl<'a> Environment<'a> {
     }
 
     /// The same of a thing with linkage that has not been declared before.
-    fn with_new_linked_around(
-        &mut self,
-        name: &'a [u8],
-        entity: Entity,
-    ) -> Result<(), AllocError>
+    fn with_new_linked_around(&mut self, name: &'a [u8], entity: Entity) -> Result<(), AllocError>
         ensures { OnOk result (seen_environment self.new ≡ plain.with_new_linked_around (seen_environment self.old) name.now (seen_entity entity)) }
     {
         let number = next_number(self.entities.len())?;
@@ -193,7 +188,7 @@ impl<'a> Environment<'a> {
 
     /// The members of the structure of this number are known from here on (C11 6.7.2.1p8).
     pub fn completed(&mut self, number: u32, members: Members<'a>)
-        ensures { seen_environment self.new ≡ plain.completed (seen_environment self.old) number (seen_members members) }
+        ensures { seen_environment self.new ≡ plain.completed (seen_environment self.old) number (seen_members members.entry) }
     {
         let place = number as usize;
         if place < self.structures.len() {

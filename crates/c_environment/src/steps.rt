@@ -6,7 +6,7 @@ ghost use Rattle.c_tree.specs.View.{view_specifier, specifiers_of};
 ghost use Rattle.c_environment.specs.Environment.{tag_here};
 ghost use Rattle.c_environment.specs.Behind as behind;
 ghost use Rattle.c_environment.specs.Scopes as scopes;
-ghost use Rattle.c_environment.specs.Tags.{tag_alone, tagged_structure};
+ghost use Rattle.c_environment.specs.Tags.{tag_of, tag_alone, tagged_structure};
 ghost use Rattle.c_environment.specs.Seen.{seen_type, seen_environment};
 
 use crate::entity::{DeclaredType, Entity};
@@ -15,13 +15,24 @@ use base_core::Lexeme;
 use c_tree::{SpecWord, Storage};
 use std::alloc::AllocError;
 
+/// The tag of a structure, where the word is one.
+fn tag_of(word: &SpecWord) -> Option<&Lexeme>
+    ensures { option_map (λ n. n.now) result ≡ tag_of (view_specifier word.now) }
+{
+    match word {
+        SpecWord::StructTag(name) => Some(name),
+        _ => None,
+    }
+}
+
 /// The tag of a structure that stands alone, where the specifiers are that.
 pub fn tag_alone(specs: &[SpecWord]) -> Option<&Lexeme>
     ensures { option_map (λ n. n.now) result ≡ tag_alone (specifiers_of (map view_specifier specs.now)) }
 {
     match specs {
-        [SpecWord::StructTag(name)] => Some(name),
-        _ => None,
+        [] => None,
+        [word] => tag_of(word),
+        [_word, _other, _more @ ..] => None,
     }
 }
 
@@ -50,11 +61,7 @@ impl<'a> Environment<'a> {
     }
 
     /// Before the members of a structure, whose tag is known in this block as this.
-    fn opened_by(
-        &mut self,
-        name: &'a [u8],
-        known: Option<Option<u32>>,
-    ) -> Result<(), AllocError>
+    fn opened_by(&mut self, name: &'a [u8], known: Option<Option<u32>>) -> Result<(), AllocError>
         ensures { OnOk result (seen_environment self.new ≡ behind.opened_by (seen_environment self.old) name.now known) }
     {
         match known {

@@ -53,11 +53,13 @@ impl DeclaredType {
     pub fn pointer_to(self, alloc: Global, quals: &[Qual]) -> Result<Self, AllocError>
         ensures { IfOk result (λ t. seen_type t ≡ plain.pointer_to quals.now (seen_type self)) }
     {
+        let constant = has_const(quals);
+        let volatile = has_volatile(quals);
         Ok(DeclaredType {
             kind: self.pointed_kind(alloc)?,
             is_function: false,
-            constant: has_const(quals),
-            volatile: has_volatile(quals),
+            constant,
+            volatile,
             atomic: false,
         })
     }

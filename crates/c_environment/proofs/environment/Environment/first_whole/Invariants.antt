@@ -2,7 +2,7 @@ use Rattle.std.proofs.Common.{◌≡◌, map, drop}
 use Rattle.c_tree.specs.View.{view_specifier, specifiers_of}
 use Rattle.c_environment.specs.Types as plain
 use Rattle.c_environment.specs.Seen.{seen_environment}
-use Rattle.c_environment.proofs.specified.Environment.first_whole.Given as goal
+use Rattle.c_environment.proofs.environment.Environment.first_whole.Given as goal
 
 abbrev pub invariant-loop-word : goal.invariant-loop-word
 invariant-loop-word l =

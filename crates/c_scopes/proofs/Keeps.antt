@@ -1,15 +1,15 @@
 -- The table of names, kept as blocks change.
-use Rattle.std.proofs.Common.{◌≡◌, ℕ, suc, ◌+◌, ◌-◌, ◌<◌, List, [], ◌∷◌, ◌++◌, length, take, map, reverse, Some, IsSome, Bool, true, false, refl, ap, sym, ◌∙◌, arith}
+use Rattle.std.proofs.Common.{◌≡◌, ℕ, suc, ◌+◌, ◌-◌, ◌<◌, List, [], ◌∷◌, ◌++◌, length, take, map, reverse, Some, IsSome, Bool, true, false, refl, ap, sym, subst, ◌∙◌, arith}
 use Rattle.std.specs.Prelude.{bytes_eq, cond, slice_get}
 use Rattle.std.proofs.Math.Seq.{take-length, take-suc}
 use Rattle.std.proofs.lemmas.Option.{slice_get_within, get_or_from_slice_get}
-use Rattle.std.proofs.lemmas.List.{reverse-append}
+use Rattle.std.proofs.lemmas.List.{reverse-append, reverse-reverse}
 use Rattle.std.specs.Borrow.{Bor}
 use Rattle.std.specs.HashMap.{HashMap}
 use Rattle.std.proofs.lemmas.Map.Text.{hash_map_updates_str}
 use Rattle.std.proofs.lemmas.Slice.Eq.{bytes_eq-Decides}
-use Rattle.c_scopes.specs.Scope.{Name, Scope}
-use Rattle.c_scopes.specs.Kept.{entry, pair, seen, kept, IsKept, Changes}
+use Rattle.c_scopes.specs.Scope.{Name, Scope, enter, leave, declare, declare_around}
+use Rattle.c_scopes.specs.Kept.{entry, pair, seen, kept, with_all, IsKept, Changes}
 use Rattle.c_scopes.proofs.Entries.{entry_behind}
 use Rattle.c_scopes.specs.declared.scope.Entry.{Entry}
 use Rattle.c_scopes.specs.declared.scope.Declared.{Declared}
@@ -61,3 +61,25 @@ at_end old new n x len is rest =
 -- one more at the end is one more at the front
 pub reverse-push : {A : Type 0} (xs : List A) (x : A) → reverse (xs ++ x ∷ []) ≡ x ∷ reverse xs
 reverse-push xs x = reverse-append xs (x ∷ [])
+
+-- ---- the names of a block, declared again
+
+all_and : (bs : Scope) (ds es : List Declared) → with_all bs (ds ++ es) ≡ with_all (with_all bs ds) es
+all_and bs [] es = refl
+all_and bs (d ∷ ds) es = all_and (declare d.name.now d.what bs) ds es
+
+-- in the order in which they were declared they are the block
+all_again : (b : List Declared) (bs : Scope) → with_all ([] ∷ bs) (reverse b) ≡ map pair b ∷ bs
+all_again [] bs = refl
+all_again (d ∷ b) bs = ap (with_all ([] ∷ bs)) (reverse-append (d ∷ []) b) ∙ all_and ([] ∷ bs) (reverse b) (d ∷ []) ∙ ap (declare d.name.now d.what) (all_again b bs)
+
+in_around : (items : List Declared) (bs : Scope) (n : Name) (x : ℕ) → 1 < length (map pair (reverse items) ∷ bs) →
+    with_all (enter (declare n x (leave (map pair (reverse items) ∷ bs)))) items ≡ declare_around n x (map pair (reverse items) ∷ bs)
+in_around items [] n x deep = absurd (omega (arith, deep))
+in_around items (c ∷ bs) n x deep = ap (with_all ([] ∷ ((n, x) ∷ c) ∷ bs)) (sym (reverse-reverse items)) ∙ all_again (reverse items) (((n, x) ∷ c) ∷ bs)
+
+-- Behind a block that is left, a name that is declared, and the block entered again with its names, the name stands in the block around.
+pub stands_around : (self bs : Scope) (items : List Declared) (n : Name) (x : ℕ) → map pair (reverse items) ∷ bs ≡ self → 1 < length self →
+    with_all (enter (declare n x (leave self))) items ≡ declare_around n x self
+stands_around self bs items n x is deep =
+    subst (λ s. 1 < length s → with_all (enter (declare n x (leave s))) items ≡ declare_around n x s) is (in_around items bs n x) deep

@@ -43,3 +43,9 @@ leave (b ∷ c ∷ bs) = c ∷ bs
 abbrev pub declare : Name → ℕ → Scope → Scope
 declare n x [] = []
 declare n x (b ∷ bs) = ((n, x) ∷ b) ∷ bs
+
+-- the same in the block around the innermost, where there is one
+abbrev pub declare_around : Name → ℕ → Scope → Scope
+declare_around n x [] = []
+declare_around n x (b ∷ []) = b ∷ []
+declare_around n x (b ∷ c ∷ bs) = b ∷ ((n, x) ∷ c) ∷ bs

@@ -1,6 +1,6 @@
 ghost use Rattle.std.specs.Prelude.{◌≡◌, ◌+◌, [], ◌∷◌, length, false, IsSome, OnOk, OnErr};
 ghost use Rattle.c_scopes.specs.Scope as blocks;
-ghost use Rattle.c_scopes.specs.Kept.{entry, is_bare, undone, kept, Changes};
+ghost use Rattle.c_scopes.specs.Kept.{entry, is_bare, undone, with_all, kept, Changes};
 
 use std::alloc::{AllocError, Global};
 use std::collections::HashMap;
@@ -140,6 +140,32 @@ impl<'a> Scope<'a> {
         let around = mem::replace(&mut self.inner, Vec::new(self.alloc));
         self.outer.push_reserved(around);
         Ok(())
+    }
+
+    /// Declares these names in the innermost block, in order. Err where there is not enough memory; the scope is then of no use.
+    fn declare_all(&mut self, names: &[Declared<'a>]) -> Result<(), AllocError>
+        ensures { OnOk result (self.new ≡ with_all self.old names.now) }
+    {
+        for one in names {
+            self.declare(one.name, one.what)?;
+        }
+        Ok(())
+    }
+
+    /// Declares a name in the block around the innermost, where there is one, in the time that the names of the innermost take. Err
+    /// where there is not enough memory; the scope is then of no use.
+    pub fn declare_around(&mut self, name: &'a [u8], what: u32) -> Result<(), AllocError>
+        ensures { OnOk result (self.new ≡ blocks.declare_around name.now what self.old) }
+    {
+        if self.depth() == 0 {
+            return Ok(());
+        }
+        let mut aside = Vec::new(self.alloc);
+        aside.extend_from_slice(self.inner.as_slice())?;
+        self.leave();
+        self.declare(name, what)?;
+        self.enter()?;
+        self.declare_all(aside.as_slice())
     }
 
     /// Whether the innermost block has declared nothing.

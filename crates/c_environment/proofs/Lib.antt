@@ -1,0 +1,5 @@
+mod Arrays
+mod Structures
+mod Counts
+pub mod Starts
+pub mod Alone

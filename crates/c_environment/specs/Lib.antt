@@ -1,0 +1,12 @@
+pub mod Entity
+pub mod Environment
+pub mod Types
+pub mod Behind
+pub mod Scopes
+pub mod Start
+pub mod Values
+pub mod Seen
+pub mod Words
+pub mod Tags
+pub mod Counted
+pub mod Fill

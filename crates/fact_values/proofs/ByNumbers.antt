@@ -1,9 +1,9 @@
 -- The orders of objects, holders, targets and parts are those of their lists of numbers.
-use Rattle.std.proofs.Common.{◌≡◌, ℕ, List, [], ◌∷◌, ◌++◌, append-nil, refl, sym, ◌∙◌}
+use Rattle.std.proofs.Common.{◌≡◌, ℕ, List, [], ◌++◌, append-nil, refl, sym, ◌∙◌}
 use Rattle.std.specs.Ordering.{nat_cmp, ordering_then}
 use Rattle.std.specs.declared.cmp.Ordering.{Ordering}
 use Rattle.std.specs.Cmp.Lexicographic.{slice_cmp}
-use Rattle.call_ctx.specs.Order.{ctx_cmp, node_cmp, role_number}
+use Rattle.call_ctx.specs.Order.{ctx_cmp, node_cmp}
 use Rattle.call_ctx.proofs.Compared.{then_assoc, then_equal, both, followed, role_by_number, cell_by_numbers}
 use Rattle.fact_values.specs.declared.object.Obj.{Obj}
 use Rattle.fact_values.specs.declared.object.Obj.TheVariants.{Variable, Text, Allocated, Library, Arrival, Arguments}

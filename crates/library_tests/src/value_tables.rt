@@ -80,14 +80,23 @@ fn are_sets_equal(a: &AbsSet, b: &AbsSet) -> bool {
     a.must == b.must && a.may == b.may
 }
 
+fn is_set_below(a: &AbsSet, b: &AbsSet) -> bool {
+    a.below(*b)
+}
+
+fn sets_join_to(a: &AbsSet, b: &AbsSet, wanted: &AbsSet) -> bool {
+    let join = a.join(*b);
+    are_sets_equal(&join, wanted)
+}
+
 /// Whether the sets of the letter are below those of 2, b, 3, d, e, A and 0 where a 1 stands, and have these joins.
 fn set_row_holds(row: u8, below: &[u8; 7], joins: &[u8; 7]) -> bool {
     let a = set_named(row);
     let columns = b"2b3deA0";
     for k in 0..7 {
         let b = set_named(columns[k]);
-        let join = a.join(b);
-        if a.below(b) != (below[k] == b'1') || !are_sets_equal(&join, &set_named(joins[k])) {
+        let wanted = set_named(joins[k]);
+        if is_set_below(&a, &b) != (below[k] == b'1') || !sets_join_to(&a, &b, &wanted) {
             return false;
         }
     }

@@ -1,0 +1,6 @@
+pub mod Said
+pub mod Denotes
+pub mod Operands
+pub mod Faults
+pub mod Sizes
+pub mod Nodes

@@ -1,0 +1,176 @@
+-- What is said of the nodes of initialisers (C11 6.7.9), for an object of a kind, where that is known.
+use Rattle.std.specs.Prelude.{ℕ, suc, Option, Some, None, Bool, true, false, ◌&&◌, ◌||◌, ◌==◌, is_none, slice_get, if◌then◌else◌}
+use Rattle.std.specs.Option.{option_and_then}
+use Rattle.c_kinds.specs.Kind.{Kind, array, structure}
+use Rattle.c_scopes.specs.Scope.{look_up}
+use Rattle.c_tree.specs.declared.tree.UnaryOp.TheVariants as u
+use Rattle.c_tree.specs.Tree.{Name, Expression, choose, binary, cast, unary, size_of, size_of_type, index, dot, name, integer, character, text, paren, Initializer, single, listed, Initializers, no_initializers, initializers}
+use Rattle.c_builtins.specs.declared.names.BuiltIn.TheVariants as b
+use Rattle.c_environment.specs.Entity.{Entity, variable, function, enumerator, built_in, Members, no_members, Structure}
+use Rattle.c_environment.specs.Environment.{Environment, entity, structure as structure_at}
+use Rattle.c_environment.specs.Behind.{behind_expression, behind_type}
+use Rattle.c_environment.specs.Scopes.{behind_initializer}
+use Rattle.c_rules.specs.declared.misfit.MisfitKind.{MisfitKind}
+use Rattle.c_rules.specs.declared.misfit.MisfitKind.TheVariants.{UnknownName, KindMismatch}
+use Rattle.c_rules.specs.declared.form.Constant.{Constant}
+use Rattle.c_rules.specs.declared.form.Constant.TheVariants.{Other}
+use Rattle.c_rules.specs.Judgement.{Judgement, silent, unless}
+use Rattle.c_rules.specs.Values.{initialiser_misfit}
+use Rattle.c_rules.specs.Declarations.{list_misfit, positional_misfit}
+use Rattle.c_declared.specs.Said.{Said, nothing, both, formless, once}
+use Rattle.c_declared.specs.Operands.{Rows}
+use Rattle.c_declared.specs.Nodes.{operand, said}
+use Rattle.c_declared.specs.Sizes.{is_arithmetic, may_be_size}
+
+-- ---- initialisers of objects with static storage duration (6.7.9p4, 6.6p7 to p9)
+
+abbrev pub is_array : Kind → Bool
+is_array (array k) = true
+is_array _ = false
+
+abbrev pub is_constant_entity : Option Entity → Bool
+is_constant_entity (Some (enumerator v)) = true
+is_constant_entity (Some (built_in b.Errno)) = false
+is_constant_entity (Some (built_in b.LeftOut)) = false
+is_constant_entity (Some (built_in x)) = true
+is_constant_entity (Some (function t)) = true
+is_constant_entity (Some (variable v)) = v.lasting && is_array v.of.kind
+is_constant_entity _ = false
+
+abbrev pub is_lasting_entity : Option Entity → Bool
+is_lasting_entity (Some (variable v)) = v.lasting
+is_lasting_entity (Some (function t)) = true
+is_lasting_entity _ = false
+
+-- the place of an object of static storage duration: a name, a string, a member, or an element by a constant index of an array
+abbrev pub is_lasting_place : Environment → Expression → Bool
+is_lasting_place env (name n) = is_lasting_entity (entity env n)
+is_lasting_place env (text ts) = true
+is_lasting_place env (paren x) = is_lasting_place env x
+is_lasting_place env (dot x m) = is_lasting_place env x
+is_lasting_place env (index x y) = is_lasting_place env x && may_be_size (behind_expression env x) y
+is_lasting_place env _ = false
+
+-- made of constants, addresses of such objects, names of such arrays and of functions, operators and casts
+abbrev pub may_be_static : Environment → Expression → Bool
+may_be_static env (name n) = is_constant_entity (entity env n)
+may_be_static env (integer z) = true
+may_be_static env (character c) = true
+may_be_static env (text ts) = true
+may_be_static env (size_of x) = true
+may_be_static env (size_of_type t) = true
+may_be_static env (paren x) = may_be_static env x
+may_be_static env (unary u.Address x) = is_lasting_place env x
+may_be_static env (unary o x) = is_arithmetic o && may_be_static env x
+may_be_static env (binary o x y) = may_be_static env x && may_be_static (behind_expression env x) y
+may_be_static env (choose w x y) =
+    may_be_static env w && may_be_static (behind_expression env w) x && may_be_static (behind_expression (behind_expression env w) x) y
+may_be_static env (cast t x) = may_be_static (behind_type env t) x
+may_be_static env _ = false
+
+abbrev mutual
+  pub is_static_initializer : Environment → Initializer → Bool
+  is_static_initializer env (single x) = may_be_static env x
+  is_static_initializer env (listed ps last) = are_static_initializers env ps
+
+  pub are_static_initializers : Environment → Initializers → Bool
+  are_static_initializers env no_initializers = true
+  are_static_initializers env (initializers n i ps) = is_static_initializer env i && are_static_initializers (behind_initializer env i) ps
+
+-- ---- the parts of a list (6.7.9p17, p18, p20): each fills the element behind that of the part before it, or the member that it names
+
+abbrev pub members_of : Option Structure → Members
+members_of None = no_members
+members_of (Some s) = s.members
+
+-- the kind of the element at a place
+abbrev pub element : Environment → Option Kind → ℕ → Option Kind
+element env (Some (array k)) i = Some k
+element env (Some (structure k)) i = slice_get (members_of (structure_at env k)).kinds i
+element env _ i = None
+
+abbrev pub member_place : Environment → Option Kind → Name → Option ℕ
+member_place env (Some (structure k)) m = look_up (members_of (structure_at env k)).names m
+member_place env _ m = None
+
+-- the place that a part fills, behind a place
+abbrev pub filled : Environment → Option Kind → ℕ → Option Name → Option ℕ
+filled env due i None = Some i
+filled env due i (Some m) = member_place env due m
+
+abbrev pub next_place : ℕ → Option ℕ → ℕ
+next_place i (Some j) = suc j
+next_place i None = suc i
+
+abbrev pub filled_kind : Environment → Option Kind → Option ℕ → Option Kind
+filled_kind env due j = option_and_then (element env due) j
+
+-- the constant that a part is
+abbrev pub constant_of : Rows → Environment → Initializer → Constant
+constant_of rows env (single x) = (operand rows env x).form.constant
+constant_of rows env (listed ps last) = Other
+
+-- what is broken by the parts, one rule after the other: each named member is one of the structure
+abbrev pub names_unknown : Environment → Option Kind → ℕ → Initializers → Bool
+names_unknown env due i no_initializers = false
+names_unknown env due i (initializers n x ps) =
+    is_none (filled env due i n) || names_unknown (behind_initializer env x) due (next_place i (filled env due i n)) ps
+
+abbrev pub is_sole : ℕ → Initializers → Bool
+is_sole i no_initializers = i == 0
+is_sole i ps = false
+
+-- of a struct sigaction no part but a sole 0 stands without its member's name
+abbrev pub positional_part : Rows → Environment → Kind → Bool → Option Name → Initializer → Option MisfitKind
+positional_part rows env k alone (Some m) x = None
+positional_part rows env k alone None x = positional_misfit k alone (constant_of rows env x)
+
+abbrev pub or_misfit : Option MisfitKind → Option MisfitKind → Option MisfitKind
+or_misfit (Some m) o = Some m
+or_misfit None o = o
+
+abbrev pub positional_parts : Rows → Environment → Kind → Bool → Initializers → Option MisfitKind
+positional_parts rows env k is_first no_initializers = None
+positional_parts rows env k is_first (initializers n x ps) =
+    or_misfit (positional_part rows env k (is_first && is_sole 0 ps) n x) (positional_parts rows (behind_initializer env x) k false ps)
+
+abbrev pub left_out_parts : Rows → Environment → Option Kind → Initializers → Option MisfitKind
+left_out_parts rows env None ps = None
+left_out_parts rows env (Some k) ps = positional_parts rows env k true ps
+
+-- there is an element to fill, and a part that is no list may stand there
+abbrev pub part_misfit : Rows → Environment → Option Kind → Initializer → Option MisfitKind
+part_misfit rows env None x = Some KindMismatch
+part_misfit rows env (Some k) (single x) = initialiser_misfit k (operand rows env x)
+part_misfit rows env (Some k) (listed ps last) = None
+
+abbrev pub parts_misfit : Rows → Environment → Option Kind → ℕ → Initializers → Option MisfitKind
+parts_misfit rows env due i no_initializers = None
+parts_misfit rows env due i (initializers n x ps) =
+    or_misfit (part_misfit rows env (filled_kind env due (filled env due i n)) x)
+    (parts_misfit rows (behind_initializer env x) due (next_place i (filled env due i n)) ps)
+
+abbrev pub due_misfit : Option Kind → Option MisfitKind
+due_misfit (Some k) = list_misfit k
+due_misfit None = None
+
+abbrev pub unknown_if : Bool → Option MisfitKind
+unknown_if holds = if holds then Some UnknownName else None
+
+abbrev pub list_rule : Rows → Environment → Option Kind → Initializers → Judgement
+list_rule rows env None ps = silent
+list_rule rows env (Some k) ps =
+    unless (unknown_if (names_unknown env (Some k) 0 ps))
+    (unless (left_out_parts rows env (Some k) ps) (unless (or_misfit (list_misfit k) (parts_misfit rows env (Some k) 0 ps)) silent))
+
+abbrev mutual
+  pub said_initializer : Rows → Environment → Option Kind → Initializer → Said
+  said_initializer rows env due (single x) = said rows env x
+  said_initializer rows env due (listed ps last) =
+      formless (once (said_initializers rows env due 0 ps) (list_rule rows env due ps)) (said_initializers rows env due 0 ps)
+
+  pub said_initializers : Rows → Environment → Option Kind → ℕ → Initializers → Said
+  said_initializers rows env due i no_initializers = nothing
+  said_initializers rows env due i (initializers n x ps) =
+      both (said_initializer rows env (filled_kind env due (filled env due i n)) x)
+      (said_initializers rows (behind_initializer env x) due (next_place i (filled env due i n)) ps)

@@ -1,0 +1,5 @@
+pub mod Initializers
+pub mod Declarations
+pub mod Statements
+pub mod Program
+pub mod Aligned

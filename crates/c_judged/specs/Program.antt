@@ -1,0 +1,84 @@
+-- What is said of the nodes of a program (C11 6.9, 5.1.2.2.1).
+use Rattle.std.specs.Prelude.{ℕ, List, [], ◌∷◌, Option, Some, None, true, ◌||◌, is_none, codes, if◌then◌else◌}
+use Rattle.std.specs.Option.{option_and_then}
+use Rattle.c_kinds.specs.Kind.{Kind}
+use Rattle.c_scopes.specs.Scope.{look_up}
+use Rattle.c_tree.specs.Tree.{Name, StatementTree, block, FunctionTree, ItemTree, function_item, declaration_item}
+use Rattle.c_environment.specs.Entity.{DeclaredType}
+use Rattle.c_environment.specs.Environment.{Environment, is_initialised, function_number}
+use Rattle.c_environment.specs.Start.{start}
+use Rattle.c_environment.specs.Types.{specified, pointed, function_type}
+use Rattle.c_environment.specs.Behind.{behind_specifiers, parameter_kinds}
+use Rattle.c_environment.specs.Scopes.{behind_item, behind_items, in_function, with_parameters}
+use Rattle.c_rules.specs.declared.misfit.MisfitKind.{MisfitKind}
+use Rattle.c_rules.specs.declared.misfit.MisfitKind.TheVariants.{UnknownName, DeclaredTwice, LeftOut, KindMismatch}
+use Rattle.c_rules.specs.Judgement.{Judgement, fits, silent, unless, first_misfit, one_further}
+use Rattle.c_rules.specs.Declarations.{main_misfit}
+use Rattle.c_declared.specs.Said.{Said, nothing, both, node, once}
+use Rattle.c_declared.specs.Operands.{Rows}
+use Rattle.c_declared.specs.Faults.{Faults, faults_of_both, faults_specifiers, faults_parameters, result_faults}
+use Rattle.c_declared.specs.Nodes.{said_specifiers, said_parameters, broken}
+use Rattle.c_judged.specs.Declarations.{is_taken, differs, entity_at, kind_of, said_declaration}
+use Rattle.c_judged.specs.Statements.{Body, labels, no_cases, said_statement, said_statements}
+
+-- ---- functions (6.9.1)
+
+-- the type of a function, before its specifiers
+abbrev pub type_of_function : Environment → FunctionTree → DeclaredType
+type_of_function env f = function_type (parameter_kinds true (in_function env f) f.params) (pointed f.stars (specified env f.specs))
+
+abbrev pub function_faults : Environment → FunctionTree → Faults
+function_faults env f =
+    faults_of_both (faults_specifiers env f.specs)
+    (faults_of_both (result_faults (pointed f.stars (specified env f.specs))) (faults_parameters true (in_function env f) f.params))
+
+-- its name is declared once, or often as a function with types that agree, and defined once; its tags are declared once
+abbrev pub function_rule : Environment → FunctionTree → Judgement
+function_rule env f =
+    unless (broken (function_faults env f).unknown UnknownName)
+    (unless (broken (is_taken (behind_specifiers env f.specs) true true f.name || is_initialised env f.name) DeclaredTwice)
+    (unless (broken (differs env f.name (type_of_function env f).kind) KindMismatch)
+    (unless (broken (function_faults env f).repeated DeclaredTwice)
+    (unless (broken (function_faults env f).passed LeftOut)
+    (unless (broken (function_faults env f).incomplete KindMismatch) (fits (type_of_function env f).kind))))))
+
+-- the nodes of its specifiers and parameters
+abbrev pub said_head : Rows → Environment → FunctionTree → Said
+said_head rows env f = both (said_specifiers rows env f.specs) (said_parameters rows true (in_function env f) f.params)
+
+-- the body is a statement without a scope of its own: its names are in that of the parameters
+abbrev pub said_body : Rows → Body → Environment → StatementTree → Said
+said_body rows b env (block ss) = node silent (said_statements rows b env no_cases ss)
+said_body rows b env s = said_statement rows b env no_cases s
+
+abbrev pub body_of : Environment → FunctionTree → Body
+body_of env f = record { result = (pointed f.stars (specified env f.specs)).kind; labels = labels f.body }
+
+abbrev pub said_function : Rows → Environment → FunctionTree → Said
+said_function rows env f =
+    node (once (said_head rows env f) (function_rule env f))
+    (both (said_head rows env f) (said_body rows (body_of env f) (with_parameters (in_function env f) (specified env f.specs) f) f.body))
+
+-- ---- items and programs
+
+abbrev pub said_item : Rows → Environment → ItemTree → Said
+said_item rows env (function_item f) = said_function rows env f
+said_item rows env (declaration_item d) = said_declaration rows env d
+
+abbrev pub said_items : Rows → Environment → List ItemTree → Said
+said_items rows env [] = nothing
+said_items rows env (i ∷ is) = both (said_item rows env i) (said_items rows (behind_item env i) is)
+
+-- the type of the function main, where the program defines one
+abbrev pub main_kind : Environment → Option Kind
+main_kind env = if is_none (function_number env (codes "main")) then None else option_and_then kind_of (entity_at env (look_up env.linked (codes "main")))
+
+abbrev pub or_misfit : Option (ℕ × MisfitKind) → Option MisfitKind → Option (ℕ × MisfitKind)
+or_misfit (Some p) o = Some p
+or_misfit None (Some m) = Some (0, m)
+or_misfit None None = None
+
+-- The first node that breaks a rule, by its number in preorder, and which rule: that of main is asked once no other is broken.
+abbrev pub program_misfit : List Name → Rows → List ItemTree → Option (ℕ × MisfitKind)
+program_misfit names rows items =
+    or_misfit (one_further (first_misfit (said_items rows (start names items) items).all)) (main_misfit (main_kind (behind_items (start names items) items)))

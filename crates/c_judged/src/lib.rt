@@ -1,0 +1,6 @@
+//! What is said of the nodes of a program.
+#![tactic(auto)]
+
+mod law;
+
+pub use law::as_many_as_nodes;

@@ -4,6 +4,7 @@ use Rattle.c_kinds.specs.Kind.{Kind, int, array, structure, signals, function_of
 use Rattle.c_kinds.specs.Word.{same, has_values}
 use Rattle.c_kinds.specs.declared.word.Word.TheVariants as w
 use Rattle.c_kinds.specs.Matching.{agrees}
+use Rattle.c_rules.specs.Types.{sigaction_number}
 use Rattle.c_rules.specs.declared.misfit.MisfitKind.{MisfitKind}
 use Rattle.c_rules.specs.declared.misfit.MisfitKind.TheVariants.{UnknownName, KindMismatch, LeftOut, NoMain}
 use Rattle.c_rules.specs.declared.form.Constant.{Constant}
@@ -43,9 +44,8 @@ abbrev pub is_zero : Constant → Bool
 is_zero Zero = true
 is_zero _ = false
 
--- struct sigaction has the number 11 among the built-in structures
 abbrev pub is_sigaction : Kind → Bool
-is_sigaction (structure n) = n == 11
+is_sigaction (structure n) = n == sigaction_number
 is_sigaction _ = false
 
 -- In a list for a struct sigaction, whose members have no order that a program may know (POSIX.1-2017 XBD signal.h), a part without

@@ -13,7 +13,7 @@ use Rattle.posix_table.specs.declared.row.Row.{Row}
 use Rattle.c_rules.specs.declared.form.Constant.{Constant}
 use Rattle.c_rules.specs.declared.misfit.MisfitKind.TheVariants.{WrongCount, KindMismatch}
 use Rattle.c_rules.specs.Judgement.{Judgement, Operand, fails, kind, after_all}
-use Rattle.c_rules.specs.Types.{char, long, handler, is_int, is_object_pointer}
+use Rattle.c_rules.specs.Types.{char, long, handler, tm_number, is_int, is_object_pointer}
 use Rattle.c_rules.specs.Values.{is_null, is_disposition}
 use Rattle.c_rules.specs.Calls.{given}
 
@@ -67,12 +67,11 @@ stream_names = codes "fopen" ∷ codes "popen" ∷ []
 abbrev pub time_names : List (List ℕ)
 time_names = codes "localtime" ∷ []
 
--- struct tm has the number 4 among the built-in structures
 abbrev pub pointed_to : List ℕ → Kind
 pointed_to name =
     if list_any (bytes_eq name) void_names then void
     else (if list_any (bytes_eq name) stream_names then kernel
-    else (if list_any (bytes_eq name) time_names then structure 4 else char))
+    else (if list_any (bytes_eq name) time_names then structure tm_number else char))
 
 abbrev pub result_kind : ResultKind → List ℕ → Kind
 result_kind r.Int name = long

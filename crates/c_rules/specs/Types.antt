@@ -1,9 +1,11 @@
 -- The kinds that rules give, and what they ask of kinds.
-use Rattle.std.specs.Prelude.{ℕ, Bool, true, false, [], ◌∷◌}
+use Rattle.std.specs.Prelude.{ℕ, suc, Bool, true, false, List, [], ◌∷◌, codes, if◌then◌else◌}
+use Rattle.std.specs.Str.{bytes_eq}
 use Rattle.c_kinds.specs.Kind.{Kind, void, int, pointer, function, word}
 use Rattle.c_kinds.specs.Word.{is_scalar, decayed_word, same}
 use Rattle.c_kinds.specs.declared.word.Word.TheVariants as w
 use Rattle.c_arithmetic.specs.declared.types.IntType.{IntType}
+use Rattle.c_builtins.specs.Types.{tags}
 
 abbrev pub of_type : IntType → Kind
 of_type t = int t.width t.signed
@@ -45,3 +47,15 @@ is_condition k = is_scalar (decayed_word (word k))
 abbrev pub is_void_pointer : Kind → Bool
 is_void_pointer (pointer void) = true
 is_void_pointer _ = false
+
+-- the number of a built-in structure: the place of its tag among those of all
+abbrev pub place_among : List (List ℕ) → List ℕ → ℕ
+place_among [] tag = 0
+place_among (known ∷ more) tag = if bytes_eq known tag then 0 else suc (place_among more tag)
+
+-- struct tm and struct sigaction (POSIX.1-2017 XBD time.h, signal.h)
+abbrev pub tm_number : ℕ
+tm_number = place_among tags (codes "tm")
+
+abbrev pub sigaction_number : ℕ
+sigaction_number = place_among tags (codes "sigaction")

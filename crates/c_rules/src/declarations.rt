@@ -7,6 +7,7 @@ ghost use Rattle.c_rules.specs.Declarations as rule;
 
 use crate::form::Constant;
 use crate::misfit::MisfitKind;
+use crate::types::sigaction_number;
 use c_kinds::{CType, Word};
 
 fn misfit_unless(holds: bool, misfit: MisfitKind) -> Option<MisfitKind>
@@ -63,14 +64,25 @@ pub fn part_misfit(is_named: bool, filled: Option<&CType>) -> Option<MisfitKind>
     }
 }
 
+fn is_sigaction(kind: &CType) -> bool
+    ensures { result ≡ rule.is_sigaction (view kind.now) }
+{
+    match kind {
+        CType::Struct(number) => *number == sigaction_number(),
+        _ => false,
+    }
+}
+
 /// What is wrong with a part of a list that names no member, in a list for an object of this type: in one for a struct sigaction it is the
 /// constant 0, and the only part.
 pub fn positional_misfit(kind: &CType, is_sole: bool, constant: Constant) -> Option<MisfitKind>
     ensures { result ≡ rule.positional_misfit (view kind.now) is_sole constant }
 {
-    let is_sigaction = matches!(kind, CType::Struct(11));
     let is_zero = matches!(constant, Constant::Zero);
-    misfit_unless(!is_sigaction || is_sole && is_zero, MisfitKind::LeftOut)
+    misfit_unless(
+        !is_sigaction(kind) || is_sole && is_zero,
+        MisfitKind::LeftOut,
+    )
 }
 
 fn is_plain_int(kind: &CType) -> bool

@@ -11,7 +11,7 @@ use crate::calls::given;
 use crate::form::Constant;
 use crate::misfit::MisfitKind;
 use crate::operand::{Operand, are_settled};
-use crate::types::{handler, is_int, is_object_pointer, of_type};
+use crate::types::{handler, is_int, is_object_pointer, of_type, tm_number};
 use crate::values::{is_disposition, is_null};
 use crate::verdict::Verdict;
 use base_core::is_among;
@@ -112,7 +112,7 @@ fn pointed_to(name: &[u8]) -> CType
     } else if is_among(&STREAM_NAMES, name) {
         CType::Kernel
     } else if is_among(&TIME_NAMES, name) {
-        CType::Struct(4)
+        CType::Struct(tm_number())
     } else {
         CType::Int(8, true)
     }

@@ -64,3 +64,17 @@ pub(crate) fn is_void_pointer(kind: &CType) -> bool
         _ => false,
     }
 }
+
+/// The number of struct tm among the built-in structures.
+pub(crate) fn tm_number() -> u32
+    ensures { result ≡ spec.tm_number }
+{
+    4
+}
+
+/// The number of struct sigaction among the built-in structures.
+pub(crate) fn sigaction_number() -> u32
+    ensures { result ≡ spec.sigaction_number }
+{
+    11
+}

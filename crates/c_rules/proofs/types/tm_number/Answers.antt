@@ -1,0 +1,5 @@
+use Rattle.std.proofs.Common.{refl}
+use Rattle.c_rules.proofs.types.tm_number.Goals as goal
+
+pub returns : goal.returns
+returns c = refl

@@ -1,5 +1,5 @@
 -- The nine positions and eight edges of `int main(void){return 0;}`.
-use Rattle.std.proofs.Common.{◌≡◌, [], ◌∷◌, ◌++◌, Some, false, ap}
+use Rattle.std.proofs.Common.{◌≡◌, [], ◌∷◌, ◌++◌, Some, true, false, ap}
 use Rattle.std.specs.Prelude.{nat_eq}
 use Rattle.c_tree.specs.declared.tree.Storage.TheVariants as st
 use Rattle.c_tree.specs.Tree.{no_specifiers, specifiers, int_word, no_parameters, integer, block, return_statement, no_statements, statements, ItemTree, function_item}

@@ -1,25 +1,25 @@
 -- The edges of each position stand in order of their targets, and the number behind a used value's node is greater than the node's.
-use Rattle.std.proofs.Common.{◌≡◌, ℕ, zero, suc, ◌+◌, ◌<◌, ◌≤◌, List, [], ◌∷◌, ◌++◌, length, Option, Some, None, Bool, true, false, refl, arith}
+use Rattle.std.proofs.Common.{◌≡◌, ℕ, ◌+◌, ◌<◌, ◌≤◌, List, [], ◌∷◌, ◌++◌, length, Option, Some, None, Bool, true, false, refl, arith}
 use Rattle.std.specs.Prelude.{cond, nat_eq}
 use Rattle.base_core.specs.declared.id.Pos.{Pos}
 use Rattle.c_tree.specs.declared.tree.BinaryOp.{BinaryOp}
 use Rattle.c_tree.specs.declared.tree.BinaryOp.TheVariants.{And, Or}
-use Rattle.c_tree.specs.Nodes.{Node, nodes_expression, nodes_statement}
+use Rattle.c_tree.specs.Nodes.{nodes_expression, nodes_statement}
 use Rattle.c_tree.specs.Tree.{Expression, comma, assign, choose, binary, cast, unary, before, size_of, size_of_type, index, call, dot, arrow, after, name, integer, character, text, paren, Expressions, no_expressions, expressions, NamedTree, ForStartTree, start_declaration, start_expression, StatementTree, block, declaration, expression_statement, if_statement, if_else_statement, while_statement, do_statement, for_statement, switch_statement, case_label, default_label, named_label, break_statement, continue_statement, return_statement, goto_statement, Statements, no_statements, statements, FunctionTree, ItemTree, function_item, declaration_item}
 use Rattle.c_tree.specs.Behind.{behind_expression, behind_type, behind_specifiers, behind_declarator, behind_named, behind_optional, behind_start, behind_statement, behind_item}
-use Rattle.c_tree.proofs.Behind.{expression_behind, type_behind, optional_behind, start_behind, statement_behind}
+use Rattle.c_tree.proofs.Behind.{expression_behind, optional_behind, start_behind, statement_behind}
 use Rattle.flow_form.specs.declared.edge.Edge.{Edge}
-use Rattle.flow_form.specs.declared.edge.Guard.TheVariants.{Always}
+use Rattle.flow_form.specs.declared.edge.Guard.TheVariants.{Always, Equal, NoneOf}
 use Rattle.flow_form.specs.declared.edge.Source.{Source}
 use Rattle.flow_form.specs.declared.edge.Use.{Use}
 use Rattle.flow_form.specs.declared.meaning.Call.{Call}
 use Rattle.flow_form.specs.declared.meaning.Call.TheVariants.{Value, Returns, Never, Copies, Waits}
 use Rattle.flow_form.specs.Typing.{Typing}
-use Rattle.flow_form.specs.Control.{inside, arguments, called, callee_ways, behind_callee, between, reads, used_value, kept_value, unused_value, used_unless, takes_place}
-use Rattle.flow_form.specs.Laws.{IsBelow, IsOrdered}
+use Rattle.flow_form.specs.Control.{inside, arguments, called, callee_ways, behind_callee, between, kept_value, unused_value, used_unless, takes_place}
+use Rattle.flow_form.specs.Laws.{IsOrdered}
 use Rattle.flow_form.specs.Pending.{is_leave}
-use Rattle.flow_form.specs.Positions.{otherwise, Ways, enter, in0, leave, plain, used, kept, unused, giving}
-use Rattle.flow_form.specs.Statements.{Around, in_loop, in_switch, jump, leaving, optional_values, through, declared, names_ways, declaration_ways, step_ways, condition_ways, start_ways, to_optional, case_edges, cases, has_default, leave_edges, switch_edges, statement_ways, in_order, labels, body_number, end_ways, function_ways, item_ways, items_ways}
+use Rattle.flow_form.specs.Positions.{Ways, node, enter, leave, plain, kept, ◌⟶◌, ◌⟹◌, choice}
+use Rattle.flow_form.specs.Statements.{Around, in_loop, in_switch, jump, leaving, optional_values, through, declared, names_ways, declaration_ways, step_ways, condition_ways, start_ways, to_optional, case_edges, cases, has_default, leave_edges, switch_edges, statement_ways, in_order, labels, body_number, end_ways, function_ways, items_ways}
 
 abbrev pub Ahead : Option Use → ℕ → ℕ → Type 0
 Ahead None n b = Unit {0}
@@ -41,61 +41,50 @@ pub fine_append : (xs ys : List Ways) → Fine xs → Fine ys → Fine (xs ++ ys
 fine_append [] ys h k = k
 fine_append (x ∷ xs) ys h k = (h.0, fine_append xs ys h.1 k)
 
-some_cons : (y : Node) (ys : List Node) → 0 < length (y ∷ ys)
-some_cons y ys = omega arith
-
 some_expression : (x : Expression) → 0 < length (nodes_expression x)
-some_expression (comma x y) = some_cons _ _
-some_expression (assign o x y) = some_cons _ _
-some_expression (choose x y z) = some_cons _ _
-some_expression (binary o x y) = some_cons _ _
-some_expression (cast c x) = some_cons _ _
-some_expression (unary o x) = some_cons _ _
-some_expression (before o x) = some_cons _ _
-some_expression (size_of x) = some_cons _ _
-some_expression (size_of_type c) = some_cons _ _
-some_expression (index x y) = some_cons _ _
-some_expression (call f xs) = some_cons _ _
-some_expression (dot x m) = some_cons _ _
-some_expression (arrow x m) = some_cons _ _
-some_expression (after o x) = some_cons _ _
-some_expression (name m) = some_cons _ _
-some_expression (integer m) = some_cons _ _
-some_expression (character m) = some_cons _ _
-some_expression (text ms) = some_cons _ _
-some_expression (paren x) = some_cons _ _
+some_expression (comma x y) = omega arith
+some_expression (assign o x y) = omega arith
+some_expression (choose x y z) = omega arith
+some_expression (binary o x y) = omega arith
+some_expression (cast c x) = omega arith
+some_expression (unary o x) = omega arith
+some_expression (before o x) = omega arith
+some_expression (size_of x) = omega arith
+some_expression (size_of_type c) = omega arith
+some_expression (index x y) = omega arith
+some_expression (call f xs) = omega arith
+some_expression (dot x m) = omega arith
+some_expression (arrow x m) = omega arith
+some_expression (after o x) = omega arith
+some_expression (name m) = omega arith
+some_expression (integer m) = omega arith
+some_expression (character m) = omega arith
+some_expression (text ms) = omega arith
+some_expression (paren x) = omega arith
 
 some_statement : (s : StatementTree) → 0 < length (nodes_statement s)
-some_statement (block ss) = some_cons _ _
-some_statement (declaration d) = some_cons _ _
-some_statement (expression_statement x) = some_cons _ _
-some_statement (if_statement x s) = some_cons _ _
-some_statement (if_else_statement x s r) = some_cons _ _
-some_statement (while_statement x s) = some_cons _ _
-some_statement (do_statement s x) = some_cons _ _
-some_statement (for_statement start x y s) = some_cons _ _
-some_statement (switch_statement x s) = some_cons _ _
-some_statement (case_label x) = some_cons _ _
-some_statement default_label = some_cons _ _
-some_statement (named_label m) = some_cons _ _
-some_statement break_statement = some_cons _ _
-some_statement continue_statement = some_cons _ _
-some_statement (return_statement x) = some_cons _ _
-some_statement (goto_statement m) = some_cons _ _
+some_statement (block ss) = omega arith
+some_statement (declaration d) = omega arith
+some_statement (expression_statement x) = omega arith
+some_statement (if_statement x s) = omega arith
+some_statement (if_else_statement x s r) = omega arith
+some_statement (while_statement x s) = omega arith
+some_statement (do_statement s x) = omega arith
+some_statement (for_statement start x y s) = omega arith
+some_statement (switch_statement x s) = omega arith
+some_statement (case_label x) = omega arith
+some_statement default_label = omega arith
+some_statement (named_label m) = omega arith
+some_statement break_statement = omega arith
+some_statement continue_statement = omega arith
+some_statement (return_statement x) = omega arith
+some_statement (goto_statement m) = omega arith
 
 pub expression_more : (n : ℕ) (x : Expression) → n < behind_expression n x
 expression_more n x = omega (arith, expression_behind n x, some_expression x)
 
 pub statement_more : (n : ℕ) (s : StatementTree) → n < behind_statement n s
 statement_more n s = omega (arith, statement_behind n s, some_statement s)
-
--- a row with one edge
-one_edge : (s : Source) (e : Edge) → IsSource s → IsOrdered (e ∷ []) × IsSource s
-one_edge s e h = ((tt, tt), h)
-
--- a row with two edges
-two_edges : (s : Source) (e f : Edge) → e.to.node.0 < f.to.node.0 → IsSource s → IsOrdered (e ∷ f ∷ []) × IsSource s
-two_edges s e f h k = ((h, (tt, tt)), k)
 
 operand : (a : ℕ) (x : Expression) → (a < behind_expression a x) × Unit {0}
 operand a x = (expression_more a x, tt)
@@ -130,15 +119,14 @@ unless_fine : (b : Bool) (n a c : ℕ) (r : Bool) → a < c → IsSource (used_u
 unless_fine true n a c r h = (tt, tt)
 unless_fine false n a c r h = (h, tt)
 
--- X: the rows inside a part; s: from where control comes; r: the part's Leave
-last_fine : (s r : Source) (p q : Edge) (X : List Ways) → IsSource s → IsSource r → Fine X →
-    Fine (record { source = s; next = p ∷ [] } ∷ (X ++ record { source = r; next = q ∷ [] } ∷ []))
-last_fine s r p q X h k x = (((tt, tt), h), fine_append X _ x (((tt, tt), k), tt))
+-- s: from where control comes into the part a, of which X are the rows inside; r: the part's Leave
+last_fine : (s : Source) (a : ℕ) (r : Source) (q : Pos) (X : List Ways) → IsSource s → IsSource r → Fine X → Fine ((s ⟹ enter a) ∷ (X ++ (r ⟹ q) ∷ []))
+last_fine s a r q X h k x = (((tt, tt), h), fine_append X _ x (((tt, tt), k), tt))
 
 mutual
   pub inside_fine : (t : Typing) (p : Bool) (n : ℕ) (x : Expression) → Fine (inside t p n x)
-  inside_fine t p n (comma x y) = (((tt, tt), (tt, tt)), fine_append (inside t false (n + 1) x) _ (inside_fine t false (n + 1) x) (last_fine _ _ _ _ (inside t false (behind_expression (n + 1) x) y) (tt, tt) (operand _ y) (inside_fine t false (behind_expression (n + 1) x) y)))
-  inside_fine t p n (assign o x y) = (((tt, tt), (tt, tt)), fine_append (inside t true (n + 1) x) _ (inside_fine t true (n + 1) x) (last_fine _ _ _ _ (inside t false (behind_expression (n + 1) x) y) (expression_more (n + 1) x, tt) (operand _ y) (inside_fine t false (behind_expression (n + 1) x) y)))
+  inside_fine t p n (comma x y) = (((tt, tt), (tt, tt)), fine_append (inside t false (n + 1) x) _ (inside_fine t false (n + 1) x) (last_fine (unused_value t (n + 1) x) (behind_expression (n + 1) x) _ _ (inside t false (behind_expression (n + 1) x) y) (tt, tt) (operand _ y) (inside_fine t false (behind_expression (n + 1) x) y)))
+  inside_fine t p n (assign o x y) = (((tt, tt), (tt, tt)), fine_append (inside t true (n + 1) x) _ (inside_fine t true (n + 1) x) (last_fine (kept n (n + 1) (behind_expression (n + 1) x) false) (behind_expression (n + 1) x) _ _ (inside t false (behind_expression (n + 1) x) y) (expression_more (n + 1) x, tt) (operand _ y) (inside_fine t false (behind_expression (n + 1) x) y)))
   inside_fine t p n (choose x y z) =
       let b = behind_expression (n + 1) x in let c = behind_expression b y in (
         ((tt, tt), (tt, tt)),
@@ -158,25 +146,25 @@ mutual
           fine_append (inside t false b y) _ (inside_fine t false b y) (((tt, tt), operand b y), tt),
         ),
       )
-  inside_fine t p n (cast c x) = last_fine _ _ _ _ (inside t false (behind_type (n + 1) c) x) (tt, tt) (unless_fine (t.is_void n) n (behind_type (n + 1) c) _ _ (expression_more (behind_type (n + 1) c) x)) (inside_fine t false (behind_type (n + 1) c) x)
-  inside_fine t p n (unary o x) = last_fine _ _ _ _ (inside t (takes_place o) (n + 1) x) (tt, tt) (operand (n + 1) x) (inside_fine t (takes_place o) (n + 1) x)
-  inside_fine t p n (before o x) = last_fine _ _ _ _ (inside t true (n + 1) x) (tt, tt) (operand (n + 1) x) (inside_fine t true (n + 1) x)
+  inside_fine t p n (cast c x) = last_fine (plain (enter n)) (behind_type (n + 1) c) _ _ (inside t false (behind_type (n + 1) c) x) (tt, tt) (unless_fine (t.is_void n) n (behind_type (n + 1) c) _ _ (expression_more (behind_type (n + 1) c) x)) (inside_fine t false (behind_type (n + 1) c) x)
+  inside_fine t p n (unary o x) = last_fine (plain (enter n)) (n + 1) _ _ (inside t (takes_place o) (n + 1) x) (tt, tt) (operand (n + 1) x) (inside_fine t (takes_place o) (n + 1) x)
+  inside_fine t p n (before o x) = last_fine (plain (enter n)) (n + 1) _ _ (inside t true (n + 1) x) (tt, tt) (operand (n + 1) x) (inside_fine t true (n + 1) x)
   inside_fine t p n (size_of x) = (((tt, tt), (tt, tt)), tt)
   inside_fine t p n (size_of_type c) = (((tt, tt), (tt, tt)), tt)
-  inside_fine t p n (index x y) = (((tt, tt), (tt, tt)), fine_append (inside t false (n + 1) x) _ (inside_fine t false (n + 1) x) (last_fine _ _ _ _ (inside t false (behind_expression (n + 1) x) y) (expression_more (n + 1) x, tt) (operand _ y) (inside_fine t false (behind_expression (n + 1) x) y)))
+  inside_fine t p n (index x y) = (((tt, tt), (tt, tt)), fine_append (inside t false (n + 1) x) _ (inside_fine t false (n + 1) x) (last_fine (kept_value t n (n + 1) x) (behind_expression (n + 1) x) _ _ (inside t false (behind_expression (n + 1) x) y) (expression_more (n + 1) x, tt) (operand _ y) (inside_fine t false (behind_expression (n + 1) x) y)))
   inside_fine t p n (call f xs) =
       fine_append (callee_ways (t.call (n + 1)) n (n + 1) (inside t false (n + 1) f)) _ (callee_fine (t.call (n + 1)) n (n + 1) (inside t false (n + 1) f) (inside_fine t false (n + 1) f))
       (fine_append (arguments t (behind_callee (t.call (n + 1)) n (kept_value t n (n + 1) f)) n (behind_expression (n + 1) f) xs) _
       (arguments_fine t (behind_callee (t.call (n + 1)) n (kept_value t n (n + 1) f)) n (behind_expression (n + 1) f) xs (behind_callee_fine (t.call (n + 1)) n (kept_value t n (n + 1) f) (operand (n + 1) f)))
       (called_fine (t.call (n + 1)) n))
-  inside_fine t p n (dot x m) = last_fine _ _ _ _ (inside t true (n + 1) x) (tt, tt) (operand (n + 1) x) (inside_fine t true (n + 1) x)
-  inside_fine t p n (arrow x m) = last_fine _ _ _ _ (inside t false (n + 1) x) (tt, tt) (operand (n + 1) x) (inside_fine t false (n + 1) x)
-  inside_fine t p n (after o x) = last_fine _ _ _ _ (inside t true (n + 1) x) (tt, tt) (operand (n + 1) x) (inside_fine t true (n + 1) x)
+  inside_fine t p n (dot x m) = last_fine (plain (enter n)) (n + 1) _ _ (inside t true (n + 1) x) (tt, tt) (operand (n + 1) x) (inside_fine t true (n + 1) x)
+  inside_fine t p n (arrow x m) = last_fine (plain (enter n)) (n + 1) _ _ (inside t false (n + 1) x) (tt, tt) (operand (n + 1) x) (inside_fine t false (n + 1) x)
+  inside_fine t p n (after o x) = last_fine (plain (enter n)) (n + 1) _ _ (inside t true (n + 1) x) (tt, tt) (operand (n + 1) x) (inside_fine t true (n + 1) x)
   inside_fine t p n (name m) = (((tt, tt), (tt, tt)), tt)
   inside_fine t p n (integer m) = (((tt, tt), (tt, tt)), tt)
   inside_fine t p n (character m) = (((tt, tt), (tt, tt)), tt)
   inside_fine t p n (text ms) = (((tt, tt), (tt, tt)), tt)
-  inside_fine t p n (paren x) = last_fine _ _ _ _ (inside t p (n + 1) x) (tt, tt) (operand (n + 1) x) (inside_fine t p (n + 1) x)
+  inside_fine t p n (paren x) = last_fine (plain (enter n)) (n + 1) _ _ (inside t p (n + 1) x) (tt, tt) (operand (n + 1) x) (inside_fine t p (n + 1) x)
 
   pub arguments_fine : (t : Typing) (s : Source) (c n : ℕ) (xs : Expressions) → IsSource s → Fine (arguments t s c n xs)
   arguments_fine t s c n no_expressions h = (((tt, tt), h), tt)
@@ -228,8 +216,8 @@ ordered_cons e m [] h k o = (tt, tt)
 ordered_cons e m (f ∷ fs) h k o = (omega (arith, h, k.0), o)
 
 case_fine : (t : Typing) (s a n m : ℕ) (r : StatementTree) (es : List Edge) → n < m → From m es → IsOrdered es → IsOrdered (case_edges t s a n r ++ es) × From n (case_edges t s a n r ++ es)
-case_fine t s a n m (case_label x) es h k o = (ordered_cons _ m es h k o, (omega arith, from_weaker n m es (omega (arith, h)) k))
-case_fine t s a n m default_label es h k o = (ordered_cons _ m es h k o, (omega arith, from_weaker n m es (omega (arith, h)) k))
+case_fine t s a n m (case_label x) es h k o = (ordered_cons (record { to = enter n; guard = Equal (node a) (t.constant n) }) m es h k o, (omega arith, from_weaker n m es (omega (arith, h)) k))
+case_fine t s a n m default_label es h k o = (ordered_cons (record { to = enter n; guard = NoneOf (node s) }) m es h k o, (omega arith, from_weaker n m es (omega (arith, h)) k))
 case_fine t s a n m _ es h k o = (o, from_weaker n m es (omega (arith, h)) k)
 
 cases_fine : (t : Typing) (s a n : ℕ) (ss : Statements) → IsOrdered (cases t s a n ss) × From n (cases t s a n ss)
@@ -240,26 +228,26 @@ cases_fine t s a n (statements r ss) =
 
 leave_edges_fine : (b : Bool) (s m : ℕ) (es : List Edge) → s < m → From m es → IsOrdered es → IsOrdered (leave_edges b s ++ es)
 leave_edges_fine true s m es h k o = o
-leave_edges_fine false s m es h k o = ordered_cons _ m es h k o
+leave_edges_fine false s m es h k o = ordered_cons (record { to = leave s; guard = NoneOf (node s) }) m es h k o
 
 switch_fine : (t : Typing) (s a b : ℕ) (body : StatementTree) → s < b → IsOrdered (switch_edges t s a b body)
 switch_fine t s a b (block ss) h = let all = cases_fine t s a (b + 1) ss in leave_edges_fine (has_default ss) s (b + 1) (cases t s a (b + 1) ss) (omega (arith, h)) all.1 all.0
 switch_fine t s a b _ h = tt
 
--- r: the Leave of a condition; s: the Leave of a statement behind it
-if_fine : (r s : Source) (p e f q : Edge) (k : Source) (X S : List Ways) → IsSource k → IsSource r → IsSource s → e.to.node.0 < f.to.node.0 → Fine X → Fine S →
-    Fine (record { source = k; next = p ∷ [] } ∷ (X ++ record { source = r; next = e ∷ f ∷ [] } ∷ (S ++ record { source = s; next = q ∷ [] } ∷ [])))
-if_fine r s p e f q k X S hk hr hs h x y = (((tt, tt), hk), fine_append X _ x (((h, (tt, tt)), hr), fine_append S _ y (((tt, tt), hs), tt)))
+-- from n into its condition a; r: the Leave of the condition; s: the Leave of a statement behind it
+if_fine : (n a : ℕ) (r s : Source) (e f : Edge) (q : Pos) (X S : List Ways) → IsSource r → IsSource s → e.to.node.0 < f.to.node.0 → Fine X → Fine S →
+    Fine ((enter n ⟶ enter a) ∷ (X ++ choice r e f ∷ (S ++ (s ⟹ q) ∷ [])))
+if_fine n a r s e f q X S hr hs h x y = (((tt, tt), (tt, tt)), fine_append X _ x (((h, (tt, tt)), hr), fine_append S _ y (((tt, tt), hs), tt)))
 
 mutual
   pub statement_fine : (t : Typing) (w : Around) (n : ℕ) (s : StatementTree) → Fine (statement_ways t w n s)
   statement_fine t w n (block ss) = in_order_fine t w (plain (enter n)) None (leave n) (n + 1) ss (tt, tt)
   statement_fine t w n (declaration d) = names_fine t (plain (enter n)) (leave n) (behind_specifiers (n + 1) d.specs) d.names (tt, tt)
   statement_fine t w n (expression_statement None) = (((tt, tt), (tt, tt)), tt)
-  statement_fine t w n (expression_statement (Some x)) = last_fine _ _ _ _ (inside t false (n + 1) x) (tt, tt) (tt, tt) (inside_fine t false (n + 1) x)
+  statement_fine t w n (expression_statement (Some x)) = last_fine (plain (enter n)) (n + 1) _ _ (inside t false (n + 1) x) (tt, tt) (tt, tt) (inside_fine t false (n + 1) x)
   statement_fine t w n (if_statement x s) =
       let b = behind_expression (n + 1) x in
-      if_fine _ (leaving w b s) _ _ _ _ _ (inside t false (n + 1) x) (statement_ways t w b s) (tt, tt) (operand (n + 1) x) (leaving_fine w b s) (omega (arith, expression_more (n + 1) x)) (inside_fine t false (n + 1) x) (statement_fine t w b s)
+      if_fine n (n + 1) _ _ _ _ _ (inside t false (n + 1) x) (statement_ways t w b s) (operand (n + 1) x) (leaving_fine w b s) (omega (arith, expression_more (n + 1) x)) (inside_fine t false (n + 1) x) (statement_fine t w b s)
   statement_fine t w n (if_else_statement x s r) =
       let b = behind_expression (n + 1) x in let c = behind_statement b s in (
         ((tt, tt), (tt, tt)),
@@ -273,7 +261,7 @@ mutual
       )
   statement_fine t w n (while_statement x s) =
       let b = behind_expression (n + 1) x in let v = in_loop w (leave n) (enter (n + 1)) in
-      if_fine _ (leaving v b s) _ _ _ _ _ (inside t false (n + 1) x) (statement_ways t v b s) (tt, tt) (operand (n + 1) x) (leaving_fine v b s) (omega (arith, expression_more (n + 1) x)) (inside_fine t false (n + 1) x) (statement_fine t v b s)
+      if_fine n (n + 1) _ _ _ _ _ (inside t false (n + 1) x) (statement_ways t v b s) (operand (n + 1) x) (leaving_fine v b s) (omega (arith, expression_more (n + 1) x)) (inside_fine t false (n + 1) x) (statement_fine t v b s)
   statement_fine t w n (do_statement s x) =
       let a = behind_statement (n + 1) s in let v = in_loop w (leave n) (enter a) in (
         ((tt, tt), (tt, tt)),
@@ -297,7 +285,7 @@ mutual
             (((tt, tt), (tt, tt)), ((switch_fine t n (n + 1) b s (omega (arith, expression_more (n + 1) x)), operand (n + 1) x), tt))),
       )
   statement_fine t w n (return_statement None) = (((tt, tt), (tt, tt)), tt)
-  statement_fine t w n (return_statement (Some x)) = last_fine _ _ _ _ (inside t false (n + 1) x) (tt, tt) (operand (n + 1) x) (inside_fine t false (n + 1) x)
+  statement_fine t w n (return_statement (Some x)) = last_fine (plain (enter n)) (n + 1) _ _ (inside t false (n + 1) x) (tt, tt) (operand (n + 1) x) (inside_fine t false (n + 1) x)
   statement_fine t w n (case_label x) = (((tt, tt), (tt, tt)), tt)
   statement_fine t w n default_label = (((tt, tt), (tt, tt)), tt)
   statement_fine t w n (named_label m) = (((tt, tt), (tt, tt)), tt)

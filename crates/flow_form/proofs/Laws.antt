@@ -1,6 +1,6 @@
 -- What holds of the rows of a program: edges in order, edges to positions that are there, no value pending before its node.
-use Rattle.std.proofs.Common.{◌≡◌, ℕ, ◌+◌, ◌*◌, ◌<◌, ◌≤◌, List, [], ◌∷◌, ◌++◌, Option, Some, None, Bool, true, false, refl, subst, sym, ◌∙◌, ap, arith, cond, eqb-true}
-use Rattle.std.specs.Prelude.{◌&&◌, ◌||◌, not, nat_eq, nat_lt, All, is_some}
+use Rattle.std.proofs.Common.{◌≡◌, ℕ, ◌+◌, ◌*◌, ◌<◌, ◌≤◌, List, [], ◌∷◌, Option, Some, None, Bool, true, false, refl, subst, arith, cond, eqb-true}
+use Rattle.std.specs.Prelude.{◌&&◌, ◌||◌, not, nat_eq, nat_lt, All}
 use Rattle.std.proofs.lemmas.Bool.Decides.{nat_tests}
 use Rattle.std.proofs.lemmas.List.Elements.{All-nil, All-cons}
 use Rattle.base_core.specs.declared.id.Pos.{Pos}
@@ -11,10 +11,10 @@ use Rattle.c_tree.specs.Behind.{behind_item}
 use Rattle.flow_form.specs.declared.edge.Edge.{Edge}
 use Rattle.flow_form.specs.declared.edge.Use.{Use}
 use Rattle.flow_form.specs.Laws.{IsOrdered, IsInOrder, IsClosed, IsLate}
-use Rattle.flow_form.specs.Pending.{is_leave, leave_row, waits, is_awaited_in, is_awaited, is_number, gives_in, is_given, is_pending}
+use Rattle.flow_form.specs.Pending.{is_leave, leave_row, waits, is_awaited_in, is_awaited, is_number, gives_in, is_given}
 use Rattle.flow_form.specs.Positions.{Ways, enter, leave}
 use Rattle.flow_form.specs.Statements.{function_ways, items_ways, program_ways}
-use Rattle.flow_form.specs.Table.{phase_number, number, found, hit, or_else, edges, next, has}
+use Rattle.flow_form.specs.Table.{phase_number, number, found, hit, or_else, edges, has}
 use Rattle.flow_form.specs.Typing.{Typing}
 use Rattle.flow_form.proofs.Fine.{Ahead, Given, IsSource, Fine, items_fine}
 use Rattle.flow_form.proofs.FunctionStays.{Has, all_there, function_stays}

@@ -3,7 +3,7 @@ use Rattle.std.proofs.Common.{◌≡◌, ℕ, ◌+◌, List, [], ◌∷◌, ◌+
 use Rattle.std.specs.Prelude.{nat_eq, cond}
 use Rattle.std.proofs.lemmas.List.{append-nil}
 use Rattle.base_core.specs.declared.id.Pos.{Pos}
-use Rattle.c_tree.specs.Tree.{StatementTree, block, declaration, expression_statement, if_statement, if_else_statement, while_statement, do_statement, for_statement, switch_statement, case_label, default_label, named_label, break_statement, continue_statement, return_statement, goto_statement, Statements, no_statements, statements, FunctionTree, ItemTree, function_item, declaration_item}
+use Rattle.c_tree.specs.Tree.{StatementTree, block, declaration, expression_statement, if_statement, if_else_statement, while_statement, do_statement, for_statement, switch_statement, case_label, default_label, named_label, break_statement, continue_statement, return_statement, goto_statement, Statements, no_statements, statements, FunctionTree, ItemTree, function_item, declaration_item, Expression, Initializer, single, listed, Initializers, no_initializers, initializers, NamedTree, DeclarationTree, ForStartTree, start_declaration, start_expression}
 use Rattle.flow_form.specs.Typing.{Typing}
 use Rattle.c_tree.specs.Behind.{behind_expression, behind_specifiers, behind_declarator, behind_init, behind_named, behind_optional, behind_start, behind_statement, behind_item}
 use Rattle.flow_form.specs.declared.edge.Source.{Source}
@@ -49,13 +49,16 @@ names_is t s q n (d ∷ ds) rs = name_is (t.is_automatic n) t s q n d ds rs (λ 
 declaration_is : (t : Typing) (n : ℕ) (d : DeclarationTree) (rs : List Ways) → past_declaration t n d rs ≡ rs ++ declaration_ways t n d
 declaration_is t n d rs = names_is t (plain (enter n)) (leave n) (behind_specifiers (n + 1) d.specs) d.names rs
 
+plus : (rs X Y : List Ways) (r : Ways) → Y ≡ rs ++ X → Y ++ r ∷ [] ≡ rs ++ (X ++ r ∷ [])
+plus rs X Y r h = ap (λ ys. ys ++ r ∷ []) h ∙ simp append_assoc
+
 step_is : (t : Typing) (n : ℕ) (x : Option Expression) (q : Pos) (rs : List Ways) → past_step t n x q rs ≡ rs ++ step_ways t n x q
 step_is t n None q rs = sym (append-nil rs)
-step_is t n (Some x) q rs = ap (λ ys. ys ++ _ ∷ []) (past_is t false n x rs) ∙ simp append_assoc
+step_is t n (Some x) q rs = plus rs _ _ _ (past_is t false n x rs)
 
 condition_is : (t : Typing) (n a b : ℕ) (x : Option Expression) (rs : List Ways) → past_condition t n a b x rs ≡ rs ++ condition_ways t n a b x
 condition_is t n a b None rs = sym (append-nil rs)
-condition_is t n a b (Some x) rs = ap (λ ys. ys ++ _ ∷ []) (past_is t false a x rs) ∙ simp append_assoc
+condition_is t n a b (Some x) rs = plus rs _ _ _ (past_is t false a x rs)
 
 start_is : (t : Typing) (p : Pos) (n : ℕ) (x : ForStartTree) (q : Pos) (rs : List Ways) → past_start t p n x q rs ≡ rs ++ start_ways t p n x q
 start_is t p n (start_declaration d) q rs = one_is rs _ _ _ _ (declaration_is t n d _)

@@ -8,7 +8,7 @@ use Rattle.flow_form.specs.Typing.{Typing}
 use Rattle.c_tree.specs.Behind.{behind_expression, behind_specifiers, behind_declarator, behind_named, behind_optional, behind_start, behind_statement}
 use Rattle.flow_form.specs.declared.edge.Source.{Source}
 use Rattle.flow_form.specs.Control.{inside, kept_value}
-use Rattle.flow_form.specs.Positions.{otherwise, Ways, enter, leave, plain, ◌⟶◌, ◌⟹◌, choice, if_zero, if_nonzero}
+use Rattle.flow_form.specs.Positions.{otherwise, Ways, enter, leave, plain, ◌⟶◌, ◌⟹◌, choice}
 use Rattle.flow_form.specs.Statements.{Around, in_loop, in_switch, label, jump, leaving, optional_values, through, declared, names_ways, statement_ways, in_order, start_ways, step_ways, condition_ways, to_optional, declaration_ways, case_edges, cases, switch_edges, has_default, leave_edges}
 use Rattle.flow_form.proofs.Stays.{At, Targets, Stays, at_left, at_right, stays_append, entered, last_stays, inside_stays}
 
@@ -184,7 +184,7 @@ module _ (P : Pos → Type 0) where
     statement_stays t w n (block ss) j h out = in_order_stays t w (plain (enter n)) None (leave n) (n + 1) ss j tt h out
     statement_stays t w n (declaration d) j h out = names_stay t (plain (enter n)) (leave n) (behind_specifiers (n + 1) d.specs) d.names out h
     statement_stays t w n (expression_statement None) j h out = ((out, tt), tt)
-    statement_stays t w n (expression_statement (Some x)) j h out = last_stays P _ n _ _ _ (inside_stays P t false (n + 1) x) (λ q. q) h out
+    statement_stays t w n (expression_statement (Some x)) j h out = last_stays P (plain (enter n)) n _ _ _ (inside_stays P t false (n + 1) x) (λ q. q) h out
     statement_stays t w n (if_statement x s) j h out =
         let part = inside_stays P t false (n + 1) x in let b = behind_expression (n + 1) x in
         if_stays n (n + 1) b _ (leaving w b s) (inside t false (n + 1) x) (statement_ways t w b s) _ _ (otherwise (leave n) (jump w s)) (λ q. q) (left w b s) (λ l. entered P (n + 1) (inside t false (n + 1) x) part.0 l) part.1
@@ -247,7 +247,7 @@ module _ (P : Pos → Type 0) where
     statement_stays t w n break_statement j h out = ((out, tt), tt)
     statement_stays t w n continue_statement j h out = ((out, tt), tt)
     statement_stays t w n (return_statement None) j h out = ((out, tt), tt)
-    statement_stays t w n (return_statement (Some x)) j h out = last_stays P _ n _ _ _ (inside_stays P t false (n + 1) x) (λ q. q) h out
+    statement_stays t w n (return_statement (Some x)) j h out = last_stays P (plain (enter n)) n _ _ _ (inside_stays P t false (n + 1) x) (λ q. q) h out
     statement_stays t w n (goto_statement m) j h out = ((out, tt), tt)
 
     pub in_order_stays : (t : Typing) (w : Around) (s : Source) (o : Option Pos) (q : Pos) (n : ℕ) (ss : Statements) → Safe w → JumpAt o → At P (in_order t w s o q n ss) → P q → Stays P (in_order t w s o q n ss)

@@ -1,7 +1,6 @@
 -- Where control goes in expressions (C11 6.5), from left to right, and which node uses each value. x has the number n, its parts
 -- have the numbers behind it.
 use Rattle.std.specs.Prelude.{ℕ, ◌+◌, List, [], ◌∷◌, ◌++◌, Bool, true, false, not, ◌&&◌}
-use Rattle.base_core.specs.declared.id.Pos.{Pos}
 use Rattle.c_tree.specs.declared.tree.BinaryOp.{BinaryOp}
 use Rattle.c_tree.specs.declared.tree.BinaryOp.TheVariants.{And, Or}
 use Rattle.c_tree.specs.declared.tree.UnaryOp.{UnaryOp}

@@ -1,5 +1,5 @@
 -- Where a position stands in the text, and which library function is called there.
-use Rattle.std.specs.Prelude.{ℕ, ◌+◌, List, Option, Some, None, Bool, true, false, ◌&&◌, ◌||◌, slice_get, option_map, if◌then◌else◌}
+use Rattle.std.specs.Prelude.{ℕ, ◌+◌, List, Option, None, Bool, true, false, ◌&&◌, ◌||◌, slice_get, option_map, if◌then◌else◌}
 use Rattle.base_core.specs.declared.id.Pos.{Pos}
 use Rattle.base_core.specs.declared.id.Phase.{Phase}
 use Rattle.base_core.specs.declared.id.Phase.TheVariants.{Finish}

@@ -1,7 +1,7 @@
 -- The ways that a walk has noted when it has passed a statement: those from before, rs, and then the statement's, one by one.
-use Rattle.std.specs.Prelude.{ℕ, ◌+◌, List, [], ◌∷◌, ◌++◌, Option, Some, None, Bool, true, false, nat_eq}
+use Rattle.std.specs.Prelude.{ℕ, ◌+◌, List, [], ◌∷◌, Option, Some, None, Bool, true, false, nat_eq}
 use Rattle.base_core.specs.declared.id.Pos.{Pos}
-use Rattle.c_tree.specs.Tree.{Name, Expression, Initializer, single, listed, Initializers, no_initializers, initializers, NamedTree, DeclarationTree, ForStartTree, start_declaration, start_expression, StatementTree, block, declaration, expression_statement, if_statement, if_else_statement, while_statement, do_statement, for_statement, switch_statement, case_label, default_label, named_label, break_statement, continue_statement, return_statement, goto_statement, Statements, no_statements, statements, FunctionTree, ItemTree, function_item, declaration_item}
+use Rattle.c_tree.specs.Tree.{Expression, Initializer, single, listed, Initializers, no_initializers, initializers, NamedTree, DeclarationTree, ForStartTree, start_declaration, start_expression, StatementTree, block, declaration, expression_statement, if_statement, if_else_statement, while_statement, do_statement, for_statement, switch_statement, case_label, default_label, named_label, break_statement, continue_statement, return_statement, goto_statement, Statements, no_statements, statements, FunctionTree, ItemTree, function_item, declaration_item}
 use Rattle.c_tree.specs.Behind.{behind_expression, behind_specifiers, behind_declarator, behind_init, behind_named, behind_optional, behind_start, behind_statement, behind_item}
 use Rattle.flow_form.specs.declared.edge.Source.{Source}
 use Rattle.flow_form.specs.Control.{used_value, kept_value, unused_value}

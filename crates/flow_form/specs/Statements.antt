@@ -7,8 +7,8 @@ use Rattle.flow_form.specs.declared.edge.Guard.TheVariants.{Equal, NoneOf}
 use Rattle.flow_form.specs.Typing.{Typing}
 use Rattle.c_tree.specs.Behind.{behind_expression, behind_specifiers, behind_declarator, behind_parameters, behind_init, behind_named, behind_optional, behind_start, behind_statement, behind_item}
 use Rattle.flow_form.specs.declared.edge.Source.{Source}
-use Rattle.flow_form.specs.Control.{reads, used_value, kept_value, unused_value, last, inside}
-use Rattle.flow_form.specs.Positions.{Ways, node, enter, leave, finish, plain, unused, used, kept, giving, ◌⟶◌, ◌⟹◌, if_zero, if_nonzero, choice, ends, otherwise}
+use Rattle.flow_form.specs.Control.{used_value, kept_value, unused_value, last, inside}
+use Rattle.flow_form.specs.Positions.{Ways, node, enter, leave, finish, plain, unused, giving, ◌⟶◌, ◌⟹◌, if_zero, if_nonzero, choice, ends, otherwise}
 
 -- where jumps lead: a break, a continue, a return from this function, and a goto by the name of its label
 pub record Around : Type 0 where

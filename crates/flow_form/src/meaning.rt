@@ -6,7 +6,7 @@ use posix_table::{Effect, ResultKind, Row, Table};
 
 /// What is called by a call: a value, which is evaluated; by its plain name a function of the program; by its plain name the
 /// library function of this row of the function table.
-#[derive(Clone, Copy, Debug, PartialEq, Eq)]
+#[derive(Clone, Copy)]
 pub enum Callee {
     Pointer,
     Function,
@@ -15,7 +15,7 @@ pub enum Callee {
 
 /// How a call goes: its callee is a value and evaluated first, or the call returns, never returns, copies the process (fork),
 /// or waits under another signal mask (sigsuspend).
-#[derive(Clone, Copy, Debug, PartialEq, Eq)]
+#[derive(Clone, Copy, PartialEq, Eq)]
 pub enum Call {
     Value,
     Returns,

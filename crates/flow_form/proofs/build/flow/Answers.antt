@@ -1,4 +1,4 @@
-use Rattle.std.proofs.Common.{List, [], ap, map, sym, subst, ◌∙◌}
+use Rattle.std.proofs.Common.{[], ap, map, sym, subst, ◌∙◌}
 use Rattle.c_tree.specs.StatementView.{view_item}
 use Rattle.c_tree.specs.ProgramTree.{trees}
 use Rattle.flow_form.specs.Laws.{IsInOrder, IsClosed, IsLate}
@@ -10,7 +10,7 @@ use Rattle.flow_form.proofs.build.flow.Goals as goal
 
 pub returns-clause-rows : goal.returns-clause-rows
 returns-clause-rows c =
-    let t = typing c.args.meaning.entry in
+    let t = typing c.args.meaning in
     c.in_ok-walk_items.ensures.rows
     ∙ ap (λ is. past_items t c.new-walk.result.at (map view_item is) c.new-walk.result.rows.items) (c.as_slice.ensures ∙ c.items.ensures)
     ∙ ap (λ n. past_items t n (map view_item c.args.program.now.items) c.new-walk.result.rows.items) c.new-walk.ensures.number
@@ -18,10 +18,10 @@ returns-clause-rows c =
     ∙ items_is t 1 (map view_item c.args.program.now.items) []
 
 pub returns-clause-order : goal.returns-clause-order
-returns-clause-order c = subst IsInOrder (sym (returns-clause-rows c)) (in_order (typing c.args.meaning.entry) (trees c.args.program.now))
+returns-clause-order c = subst IsInOrder (sym (returns-clause-rows c)) (in_order (typing c.args.meaning) (trees c.args.program.now))
 
 pub returns-clause-closed : goal.returns-clause-closed
-returns-clause-closed c = subst IsClosed (sym (returns-clause-rows c)) (closed (typing c.args.meaning.entry) (trees c.args.program.now))
+returns-clause-closed c = subst IsClosed (sym (returns-clause-rows c)) (closed (typing c.args.meaning) (trees c.args.program.now))
 
 pub returns-clause-late : goal.returns-clause-late
-returns-clause-late c = subst (IsLate (typing c.args.meaning.entry)) (sym (returns-clause-rows c)) (late (typing c.args.meaning.entry) (trees c.args.program.now))
+returns-clause-late c = subst (IsLate (typing c.args.meaning)) (sym (returns-clause-rows c)) (late (typing c.args.meaning) (trees c.args.program.now))

@@ -1,0 +1,9 @@
+pub mod Passed
+pub mod Tables
+pub mod PassedStatements
+pub mod Stays
+pub mod StaysStatements
+pub mod FunctionStays
+pub mod Fine
+pub mod Laws
+pub mod Examples

@@ -1,0 +1,12 @@
+pub mod Typing
+pub mod Positions
+pub mod Control
+pub mod Passed
+pub mod Statements
+pub mod Table
+pub mod Pending
+pub mod Jumps
+pub mod PassedStatements
+pub mod Action
+pub mod Lines
+pub mod Laws

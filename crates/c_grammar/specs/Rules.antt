@@ -18,7 +18,7 @@ use Rattle.c_tree.specs.declared.tree.Storage.TheVariants as st
 use Rattle.c_tree.specs.declared.tree.Qual.TheVariants as q
 use Rattle.c_tree.specs.TypeWords.{TypeWord, of_void, of_char, of_short, of_int, of_long, of_signed, of_unsigned, of_whole, is_one_type, is_among, has_tag}
 use Rattle.c_tree.specs.ExpressionShape.{op_level, level}
-use Rattle.c_tree.specs.Shape.{Scope, Place, of_loop, of_branch, of_block, of_switch, outside, behind_specifiers, behind_named, behind_item}
+use Rattle.c_tree.specs.Shape.{Scope, Context, of_loop, of_branch, of_block, of_switch, outside, behind_specifiers, behind_named, behind_item}
 use Rattle.c_tree.specs.Tree.{Name, Quals, Stars, Expression, comma, assign, choose, binary, cast, unary, before, size_of, size_of_type, index, call, dot, arrow, after, name, integer, character, text, paren, Expressions, no_expressions, expressions, Sizes, no_sizes, open_size, size, TypeTree, typed, Specifiers, no_specifiers, specifiers, Specifier, const_word, volatile_word, void_word, char_word, short_word, int_word, long_word, signed_word, unsigned_word, type_name, struct_tag, struct_of, enum_tag, enum_of, Members, no_members, member, Declarators, no_declarators, declarators, Enumerators, no_enumerators, enumerator, enumerator_with, DeclaratorTree, plain, array, function, pointer, Parameters, no_parameters, parameters, ParameterForm, named_form, bare_form, BareTree, bare_stars, bare_pointer, Initializer, single, listed, Initializers, no_initializers, initializers, NamedTree, DeclarationTree, ForStartTree, start_declaration, start_expression, StatementTree, block, declaration, expression_statement, if_statement, if_else_statement, while_statement, do_statement, for_statement, switch_statement, case_label, default_label, named_label, break_statement, continue_statement, return_statement, goto_statement, Statements, no_statements, statements, ItemTree, function_item, declaration_item}
 use Rattle.c_grammar.specs.declared.kind.Kind.{Kind}
 use Rattle.c_grammar.specs.declared.kind.Kind.TheVariants as k
@@ -98,9 +98,9 @@ pub data Rule : Type 0 where
   -- an expression and this token, or the token alone
   an_optional : NameEnvironment → ℕ → Kind → Rule
   a_start : NameEnvironment → ℕ → Rule
-  a_statement : NameEnvironment → ℕ → Place → ℕ → Rule
+  a_statement : NameEnvironment → ℕ → Context → ℕ → Rule
   -- the statements of a block, with the closing brace
-  all_statements : NameEnvironment → ℕ → Place → Rule
+  all_statements : NameEnvironment → ℕ → Context → Rule
   -- a name that is declared outside functions
   an_outer : Storage → Scope → Rule
   more_outer : Storage → Scope → Rule
@@ -824,7 +824,7 @@ start_by t d kind =
       done (start_expression x))
 
 -- behind the branch of an if
-abbrev pub else_by : NameEnvironment → ℕ → Place → Expression → StatementTree → Kind → Reads StatementTree
+abbrev pub else_by : NameEnvironment → ℕ → Context → Expression → StatementTree → Kind → Reads StatementTree
 else_by t d p x y k.Else = do
   spend 1 (d + 2)
   skip
@@ -852,7 +852,7 @@ labelled_by t d n kind =
     then spend 1 (d + 2) (scope (d + 2) (a_rest t (d + 1) 1 (name n)) (λ x. expect k.Semicolon (done (expression_statement (Some x)))))
     else stop
 
-abbrev pub statement_by : NameEnvironment → ℕ → Place → ℕ → Kind → Reads StatementTree
+abbrev pub statement_by : NameEnvironment → ℕ → Context → ℕ → Kind → Reads StatementTree
 statement_by t d p owed k.OpenBrace = do
   spend owed (d + 1)
   skip
@@ -941,7 +941,7 @@ statement_by t d p owed kind =
       done (declaration x)) else stop)
     else expressed t d owed
 
-abbrev pub statements_by : NameEnvironment → ℕ → Place → Kind → Reads Statements
+abbrev pub statements_by : NameEnvironment → ℕ → Context → Kind → Reads Statements
 statements_by t d p k.CloseBrace = skip (done no_statements)
 statements_by t d p _ = body.strict (a_statement t d p 1) (λ x. body.call (all_statements t d p) (λ xs. done (statements x xs)))
 

@@ -1,7 +1,7 @@
 -- Each rule reads what code reads that performs its body: one lemma for each rule, for the lists of tactics.
 use Rattle.std.proofs.Common.{◌≡◌, ℕ, Bool, List}
 use Rattle.c_tree.specs.declared.tree.Storage.{Storage}
-use Rattle.c_tree.specs.TypeWords.{TypeWord}
+use Rattle.c_tree.specs.declared.type_word.TypeWord.{TypeWord}
 use Rattle.c_tree.specs.Shape.{Scope, Context}
 use Rattle.c_tree.specs.Tree.{Expression}
 use Rattle.c_grammar.specs.declared.kind.Kind.{Kind}

@@ -14,7 +14,9 @@ use Rattle.c_grammar.specs.declared.kind.Kind.{Kind}
 use Rattle.c_grammar.specs.declared.kind.Kind.TheVariants as k
 use Rattle.c_grammar.specs.Kind.{kind, same_kind, token_of, IsFixed, IsUnnamed}
 use Rattle.c_grammar.specs.Body.{done, stop, look, take, call, strict, spend, scope, Outcome, got}
-use Rattle.c_grammar.specs.Rules.{NameEnvironment, only_types, Infix, infix_of, no_infix, an_operator, goes_on, follows_name, an_expression, a_whole, a_rest, a_declaration, an_optional, a_start, a_statement, all_statements, expect, first_of_operand, no_operand, begins_type, begins_declaration, else_by, expressed, labelled_by, statement_by, statements_by}
+use Rattle.c_grammar.specs.Rules.{NameEnvironment, only_types, infix_of, goes_on, follows_name, an_expression, a_whole, a_rest, a_declaration, an_optional, a_start, a_statement, all_statements, expect, first_of_operand, begins_type, begins_declaration, else_by, expressed, labelled_by, statement_by, statements_by}
+use Rattle.c_grammar.specs.declared.infix.Infix.{Infix}
+use Rattle.c_grammar.specs.declared.infix.Infix.TheVariants as ix
 use Rattle.c_grammar.proofs.KindLemmas.{same_refl, same_true, same_false, false_same, kind_end, kind_at, kind_name, kind_same, name_head}
 use Rattle.c_grammar.proofs.Onto.{onto_expression, onto_specifiers, onto_storage, onto_declaration, onto_optional, onto_for_start, onto_statement, onto_statements}
 use Rattle.c_grammar.proofs.OntoSpelling.{statement_onto}
@@ -43,7 +45,7 @@ pub expression_alone : (t : List Name) (d o : ℕ) (x : Expression) (e : Kind) (
 expression_alone t d o x e r fixed ends s = expression_complete t d 1 o x (token_of e [] ∷ r) s (omega arith) (omega arith) (level_some x) (light e r 1 fixed ends)
 
 -- an expression is read up to a token, or the token alone
-pub optional_complete : (t : List Name) (d : ℕ) (e : Kind) (x : Option Expression) (r : Tokens) → IsFixed e → IsUnnamed e → first_of_operand e ≡ no_operand → weight_of e < 1 → ShapeOptional t x →
+pub optional_complete : (t : List Name) (d : ℕ) (e : Kind) (x : Option Expression) (r : Tokens) → IsFixed e → IsUnnamed e → first_of_operand e ≡ None → weight_of e < 1 → ShapeOptional t x →
     parse (an_optional (only_types t) d e) (onto_optional x (token_of e [] ∷ r)) ≡ got x r tt
 optional_complete t d e None r fixed un none ends s = ran (an_optional (only_types t) d e) _ _ (run_at e fixed (run_then _ (same_refl e) (run_take (run_done refl))))
 optional_complete t d e (Some x) r fixed un none ends s =
@@ -52,7 +54,7 @@ optional_complete t d e (Some x) r fixed un none ends s =
     (run_call refl (expression_alone t d 1 x e r fixed ends s) (run_expect e fixed (run_done refl)))))
 
 -- an operand begins no declaration
-operand_no_declaration : (e : Kind) → first_of_operand e ≢ no_operand → begins_declaration e ≡ false
+operand_no_declaration : (e : Kind) → first_of_operand e ≢ None → begins_declaration e ≡ false
 operand_no_declaration k.Name h = refl
 operand_no_declaration k.Integer h = refl
 operand_no_declaration k.Character h = refl
@@ -96,7 +98,7 @@ start_complete t d (start_expression (Some x)) r s =
 
 -- ---- an expression as a statement
 
-by_operand : (t : NameEnvironment) (d : ℕ) (p : Context) (o : ℕ) (e : Kind) → first_of_operand e ≢ no_operand → e ≢ k.Name → statement_by t d p o e ≡ expressed t d o
+by_operand : (t : NameEnvironment) (d : ℕ) (p : Context) (o : ℕ) (e : Kind) → first_of_operand e ≢ None → e ≢ k.Name → statement_by t d p o e ≡ expressed t d o
 by_operand t d p o k.Name h new = absurd (new refl)
 by_operand t d p o k.Integer h new = refl
 by_operand t d p o k.Character h new = refl
@@ -122,16 +124,16 @@ by_rest t d n k.Colon h follows = absurd (h refl)
 by_rest t d n e h follows = cond-true (follows_name e) (spend 1 (d + 2) (scope (d + 2) (a_rest t (d + 1) 1 (name n)) (λ x. expect k.Semicolon (done (expression_statement (Some x)))))) stop follows
 
 -- a name goes on with every operator
-operator_goes : (o : BinaryOp) → goes_on 1 (an_operator o) 17 ≡ true
+operator_goes : (o : BinaryOp) → goes_on 1 (Some (ix.Operator o)) 17 ≡ true
 operator_goes b.Or = refl
 operator_goes _ = refl
 
-no_goes : (i : Infix) → goes_on 1 i 17 ≡ false → i ≡ no_infix
-no_goes no_infix h = refl
-no_goes (an_operator o) h = absurd (false_true (sym h ∙ operator_goes o))
+no_goes : (i : Option Infix) → goes_on 1 i 17 ≡ false → i ≡ None
+no_goes None h = refl
+no_goes (Some (ix.Operator o)) h = absurd (false_true (sym h ∙ operator_goes o))
 no_goes _ h = absurd (cc)
 
-no_follow : (e : Kind) → follows_name e ≡ false → infix_of e ≡ no_infix
+no_follow : (e : Kind) → follows_name e ≡ false → infix_of e ≡ None
 no_follow k.Semicolon h = absurd (cc)
 no_follow e h = no_goes (infix_of e) h
 
@@ -189,7 +191,7 @@ begins_statement k.Else = false
 begins_statement k.Nothing = false
 begins_statement _ = true
 
-operand_statement : (e : Kind) → first_of_operand e ≢ no_operand → begins_statement e ≡ true
+operand_statement : (e : Kind) → first_of_operand e ≢ None → begins_statement e ≡ true
 operand_statement k.CloseBrace h = absurd (h refl)
 operand_statement k.Else h = absurd (h refl)
 operand_statement k.Nothing h = absurd (h refl)

@@ -11,7 +11,11 @@ mod flat_reading;
 #[cfg(test)]
 mod flat_trees;
 #[cfg(test)]
+mod function_rows;
+#[cfg(test)]
 mod grammar_cursor;
+#[cfg(test)]
+mod job_words;
 #[cfg(test)]
 mod judgements;
 #[cfg(test)]
@@ -26,3 +30,5 @@ mod scopes;
 mod signal_sets;
 #[cfg(test)]
 mod states;
+#[cfg(test)]
+mod token_texts;

@@ -1,5 +1,5 @@
 -- What the text of an expression begins with.
-use Rattle.std.proofs.Common.{◌≡◌, ◌≢◌, ◌<◌, ◌≤◌, false, List, [], ◌∷◌, length, codes, refl, sym, ap, ◌∙◌, length-append, append-nil, arith}
+use Rattle.std.proofs.Common.{◌≡◌, ◌≢◌, ◌<◌, ◌≤◌, false, List, [], ◌∷◌, length, codes, refl, sym, ap, ◌∙◌, length-append, append-nil, arith, Some, None}
 use Rattle.c_tree.specs.declared.tree.UnaryOp.{UnaryOp}
 use Rattle.c_tree.specs.declared.tree.StepOp.{StepOp}
 use Rattle.c_tree.specs.Tree.{Name, Expression, comma, assign, choose, binary, cast, unary, before, size_of, size_of_type, index, call, dot, arrow, after, name, integer, character, text, paren}
@@ -9,24 +9,25 @@ use Rattle.c_tree.specs.ExpressionShape.{level, ShapeExpression}
 use Rattle.c_grammar.specs.declared.kind.Kind.{Kind}
 use Rattle.c_grammar.specs.declared.kind.Kind.TheVariants as k
 use Rattle.c_grammar.specs.Kind.{kind, tail_of, unary_kind, step_kind}
-use Rattle.c_grammar.specs.Rules.{NameEnvironment, First, first_of_operand, no_operand, a_step, a_unary, begins_type}
+use Rattle.c_grammar.specs.Rules.{NameEnvironment, first_of_operand, begins_type}
+use Rattle.c_grammar.specs.declared.infix.First.TheVariants as fi
 use Rattle.c_grammar.proofs.Onto.{onto_expression}
 use Rattle.c_grammar.proofs.OntoSpelling.{expression_onto}
 use Rattle.c_grammar.proofs.KindLemmas.{kind_at, kind_name, kind_end}
 use Rattle.c_grammar.proofs.MoreKinds.{kind_unary, kind_step, first_unary, first_step, operator_most}
 
 -- an operand begins with a token of the kind
-operand_from : (e : Kind) (i : Kind) → i ≡ e → first_of_operand e ≢ no_operand → first_of_operand i ≢ no_operand
+operand_from : (e : Kind) (i : Kind) → i ≡ e → first_of_operand e ≢ None → first_of_operand i ≢ None
 operand_from e i is h = λ q. h (ap first_of_operand (sym is) ∙ q)
 
-unary_operand : (o : UnaryOp) → first_of_operand (unary_kind o) ≢ no_operand
-unary_operand o = λ q. let e : a_unary o ≡ no_operand = sym (first_unary o) ∙ q in cc
+unary_operand : (o : UnaryOp) → first_of_operand (unary_kind o) ≢ None
+unary_operand o = λ q. let e : Some (fi.Unary o) ≡ None = sym (first_unary o) ∙ q in cc
 
-step_operand : (o : StepOp) → first_of_operand (step_kind o) ≢ no_operand
-step_operand o = λ q. let e : a_step o ≡ no_operand = sym (first_step o) ∙ q in cc
+step_operand : (o : StepOp) → first_of_operand (step_kind o) ≢ None
+step_operand o = λ q. let e : Some (fi.Step o) ≡ None = sym (first_step o) ∙ q in cc
 
 -- an expression begins with what an operand begins with
-pub expression_head : (t : NameEnvironment) (x : Expression) (r : Tokens) → ShapeExpression t.types x → first_of_operand (kind t.types (onto_expression x r)) ≢ no_operand
+pub expression_head : (t : NameEnvironment) (x : Expression) (r : Tokens) → ShapeExpression t.types x → first_of_operand (kind t.types (onto_expression x r)) ≢ None
 expression_head t (comma x y) r s = expression_head t x _ s.2
 expression_head t (assign o x y) r s = expression_head t x _ s.2
 expression_head t (choose x y z) r s = expression_head t x _ s.3
@@ -49,11 +50,11 @@ expression_head t (text (n ∷ ns)) r s = operand_from k.Text _ (kind_at t.types
 expression_head t (paren x) r s = operand_from k.OpenParen _ (kind_at t.types k.OpenParen [] _ tt) (λ q. cc)
 
 -- no operand begins with a kind that begins none
-pub operand_not : (e f : Kind) → first_of_operand e ≢ no_operand → first_of_operand f ≡ no_operand → e ≢ f
+pub operand_not : (e f : Kind) → first_of_operand e ≢ None → first_of_operand f ≡ None → e ≢ f
 operand_not e f h none = λ q. h (ap first_of_operand q ∙ none)
 
 -- no type begins with what an operand begins with
-pub operand_no_type : (e : Kind) → first_of_operand e ≢ no_operand → begins_type e ≡ false
+pub operand_no_type : (e : Kind) → first_of_operand e ≢ None → begins_type e ≡ false
 operand_no_type k.Const h = absurd (h refl)
 operand_no_type k.Volatile h = absurd (h refl)
 operand_no_type k.Void h = absurd (h refl)
@@ -69,7 +70,7 @@ operand_no_type k.Enum h = absurd (h refl)
 operand_no_type _ h = refl
 
 -- no expression is read as nothing
-spelled : (t : NameEnvironment) (x : Expression) (ts : Tokens) → onto_expression x [] ≡ ts → first_of_operand (kind t.types (onto_expression x [])) ≢ no_operand → 1 ≤ length ts
+spelled : (t : NameEnvironment) (x : Expression) (ts : Tokens) → onto_expression x [] ≡ ts → first_of_operand (kind t.types (onto_expression x [])) ≢ None → 1 ≤ length ts
 spelled t x [] e h = absurd (h (ap (λ v. first_of_operand (kind t.types v)) e ∙ ap first_of_operand (kind_end t.types)))
 spelled t x (v ∷ vs) e h = omega arith
 
@@ -84,10 +85,10 @@ pub heads_differ : {P : Type 0} (types : List Name) (ts us : Tokens) (e f : Kind
 heads_differ types ts us e f same is of differ = absurd (differ (sym is ∙ ap (kind types) same ∙ of))
 
 unary_not_open : (o : UnaryOp) → unary_kind o ≢ k.OpenParen
-unary_not_open o = λ q. let e : a_unary o ≡ First.an_open = sym (first_unary o) ∙ ap first_of_operand q in cc
+unary_not_open o = λ q. let e : Some (fi.Unary o) ≡ Some fi.Open = sym (first_unary o) ∙ ap first_of_operand q in cc
 
 step_not_open : (o : StepOp) → step_kind o ≢ k.OpenParen
-step_not_open o = λ q. let e : a_step o ≡ First.an_open = sym (first_step o) ∙ ap first_of_operand q in cc
+step_not_open o = λ q. let e : Some (fi.Step o) ≡ Some fi.Open = sym (first_step o) ∙ ap first_of_operand q in cc
 
 -- where a unary expression begins with a bracket, no type stands in it
 pub open_no_type : (t : NameEnvironment) (x : Expression) (r us : Tokens) → ShapeExpression t.types x → 15 ≤ level x → onto_expression x r ≡ mark (codes "(") ∷ us → begins_type (kind t.types us) ≡ false

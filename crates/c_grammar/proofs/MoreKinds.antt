@@ -1,5 +1,5 @@
 -- The kinds of operators' tokens, and what kinds begin and go on with.
-use Rattle.std.proofs.Common.{◌≡◌, ◌≤◌, Bool, true, false, cond, List, [], ◌∷◌, refl, sym, ap, ◌∙◌, le_refl, arith}
+use Rattle.std.proofs.Common.{◌≡◌, ◌≤◌, Bool, true, false, cond, List, [], ◌∷◌, refl, sym, ap, ◌∙◌, le_refl, arith, Some}
 use Rattle.c_tree.specs.declared.tree.AssignOp.{AssignOp}
 use Rattle.c_tree.specs.declared.tree.AssignOp.TheVariants as a
 use Rattle.c_tree.specs.declared.tree.BinaryOp.{BinaryOp}
@@ -15,7 +15,9 @@ use Rattle.c_tree.specs.ExpressionShape.{op_level}
 use Rattle.c_grammar.specs.declared.kind.Kind.{Kind}
 use Rattle.c_grammar.specs.declared.kind.Kind.TheVariants as k
 use Rattle.c_grammar.specs.Kind.{kind, sorted, IsFixed, operator_kind, assignment_kind, unary_kind, step_kind, head_text}
-use Rattle.c_grammar.specs.Rules.{infix_of, own_level, an_assign, an_operator, a_step_behind, first_of_operand, a_step, a_unary}
+use Rattle.c_grammar.specs.Rules.{infix_of, own_level, first_of_operand}
+use Rattle.c_grammar.specs.declared.infix.First.TheVariants as fi
+use Rattle.c_grammar.specs.declared.infix.Infix.TheVariants as ix
 use Rattle.c_grammar.proofs.KindLemmas.{kind_at, kind_sorted, operator_mark, assignment_mark, unary_mark, step_mark}
 use Rattle.c_grammar.proofs.Weight.{weight, weight_of, weight_is}
 
@@ -52,27 +54,27 @@ pub kind_step : (types : List Name) (o : StepOp) (us : Tokens) → kind types (m
 kind_step types o us = ap (λ v. kind types (v ∷ us)) (sym (step_mark o [])) ∙ kind_at types (step_kind o) [] us (fixed_step o)
 
 -- an expression goes on with a binary operator
-pub infix_operator : (o : BinaryOp) → infix_of (operator_kind o) ≡ an_operator o
+pub infix_operator : (o : BinaryOp) → infix_of (operator_kind o) ≡ Some (ix.Operator o)
 infix_operator b.Or = refl
 infix_operator _ = refl
 
 -- an expression goes on with an assignment
-pub infix_assignment : (o : AssignOp) → infix_of (assignment_kind o) ≡ an_assign o
+pub infix_assignment : (o : AssignOp) → infix_of (assignment_kind o) ≡ Some (ix.Assign o)
 infix_assignment a.Plain = refl
 infix_assignment _ = refl
 
 -- an expression goes on with a step
-pub infix_step : (o : StepOp) → infix_of (step_kind o) ≡ a_step_behind o
+pub infix_step : (o : StepOp) → infix_of (step_kind o) ≡ Some (ix.Step o)
 infix_step s.Up = refl
 infix_step s.Down = refl
 
 -- an operand begins with a unary operator
-pub first_unary : (o : UnaryOp) → first_of_operand (unary_kind o) ≡ a_unary o
+pub first_unary : (o : UnaryOp) → first_of_operand (unary_kind o) ≡ Some (fi.Unary o)
 first_unary u.Address = refl
 first_unary _ = refl
 
 -- an operand begins with a step
-pub first_step : (o : StepOp) → first_of_operand (step_kind o) ≡ a_step o
+pub first_step : (o : StepOp) → first_of_operand (step_kind o) ≡ Some (fi.Step o)
 first_step s.Up = refl
 first_step s.Down = refl
 

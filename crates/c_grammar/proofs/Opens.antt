@@ -1,8 +1,8 @@
 -- Each rule reads what code reads that performs its body: one lemma for each rule, for the lists of tactics.
 use Rattle.std.proofs.Common.{◌≡◌, ℕ, Bool, List}
 use Rattle.c_tree.specs.declared.tree.Storage.{Storage}
-use Rattle.c_tree.specs.TypeWords.{TypeWord}
-use Rattle.c_tree.specs.Shape.{Scope, Place}
+use Rattle.c_tree.specs.declared.type_word.TypeWord.{TypeWord}
+use Rattle.c_tree.specs.Shape.{Scope, Context}
 use Rattle.c_tree.specs.Tree.{Expression}
 use Rattle.c_grammar.specs.declared.kind.Kind.{Kind}
 use Rattle.c_grammar.specs.Kind.{IsReal}
@@ -123,10 +123,10 @@ optional_performs t d e w i = read_performs (an_optional t d e) w i
 pub start_performs : (t : NameEnvironment) (d : ℕ) (i : Input) → read (a_start t d) i ≡ perform (rule (a_start t d)) i
 start_performs t d i = read_performs (a_start t d) tt i
 
-pub statement_performs : (t : NameEnvironment) (d : ℕ) (p : Place) (o : ℕ) (i : Input) → read (a_statement t d p o) i ≡ perform (rule (a_statement t d p o)) i
+pub statement_performs : (t : NameEnvironment) (d : ℕ) (p : Context) (o : ℕ) (i : Input) → read (a_statement t d p o) i ≡ perform (rule (a_statement t d p o)) i
 statement_performs t d p o i = read_performs (a_statement t d p o) tt i
 
-pub statements_performs : (t : NameEnvironment) (d : ℕ) (p : Place) (i : Input) → read (all_statements t d p) i ≡ perform (rule (all_statements t d p)) i
+pub statements_performs : (t : NameEnvironment) (d : ℕ) (p : Context) (i : Input) → read (all_statements t d p) i ≡ perform (rule (all_statements t d p)) i
 statements_performs t d p i = read_performs (all_statements t d p) tt i
 
 pub outer_performs : (c : Storage) (s : Scope) (i : Input) → read (an_outer c s) i ≡ perform (rule (an_outer c s)) i

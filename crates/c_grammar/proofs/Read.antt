@@ -3,7 +3,8 @@ use Rattle.std.proofs.Common.{◌⊎◌}
 use Rattle.std.specs.Prelude.{◌≡◌, ◌≢◌, ℕ, ◌≤◌, [], ◌∷◌, ◌++◌, false, ⊤, IsTrue, codes}
 use Rattle.c_tree.specs.declared.tree.Storage.{Storage}
 use Rattle.c_tree.specs.Marks.{Tokens, keyword, mark}
-use Rattle.c_tree.specs.TypeWords.{of_whole, is_one_type, type_words, words_of, IsOrdinary, NamesType}
+use Rattle.c_tree.specs.TypeWords.{is_one_type, type_words, words_of, IsOrdinary, NamesType}
+use Rattle.c_tree.specs.declared.type_word.TypeWord.TheVariants as tw
 use Rattle.c_tree.specs.DeclaredNames.{declarator_name}
 use Rattle.c_tree.specs.ExpressionShape.{level, FitsWord, IsNotVoid, AtMostOne, AtLeastOne, HasMember, HasDeclarator, HasEnumerator, IsNoFunction, ShapeExpression, ShapeArguments, ShapeSizes, ShapeType, ShapeSpecifiers, ShapeSpecifier, ShapeMembers, ShapeDeclarators, ShapeEnumerators, ShapeDeclarator, ShapeParameters, ShapeForm, ShapeBare}
 use Rattle.c_tree.specs.Shape.{Scope, HasInitializer, ShapeInit, ShapeInitializers, ShapeNamed, ShapeNames, IsNoTypedef, ShapeInner, ShapeOptional, ShapeStart, ends_open, ShapeStatement, ShapeStatements, ShapeItem, ShapeItems}
@@ -33,12 +34,12 @@ Read (all_arguments t d) ts m xs us n = (ts ≡ onto_arguments xs (mark (codes "
 Read (more_arguments t d) ts m xs us n = (ts ≡ onto_more xs (mark (codes ")") ∷ us)) × ShapeArguments t.types xs
 Read (a_type t d) ts m y us n = (ts ≡ onto_type y us) × ShapeType t.types y
 Read (all_specifiers t d b ws) ts m xs us n = (ts ≡ onto_specifiers xs us) × ShapeSpecifiers t.types xs × IsTrue (is_one_type (ws ++ type_words xs))
-Read (a_struct t d) ts m x us n = (keyword (codes "struct") ∷ ts ≡ onto_specifier x us) × ShapeSpecifier t.types x × (words_of x ≡ of_whole ∷ [])
+Read (a_struct t d) ts m x us n = (keyword (codes "struct") ∷ ts ≡ onto_specifier x us) × ShapeSpecifier t.types x × (words_of x ≡ tw.Whole ∷ [])
 Read (all_members t d) ts m ms us n = (ts ≡ onto_members ms (mark (codes "}") ∷ us)) × HasMember ms × ShapeMembers t.types ms
 Read (more_members t d) ts m ms us n = (ts ≡ onto_members ms (mark (codes "}") ∷ us)) × ShapeMembers t.types ms
 Read (all_declarators t d) ts m cs us n = (ts ≡ onto_declarators cs us) × HasDeclarator cs × ShapeDeclarators t.types cs
 Read (more_declarators t d) ts m cs us n = (ts ≡ onto_more_declarators cs us) × ShapeDeclarators t.types cs
-Read (an_enum t d) ts m x us n = (keyword (codes "enum") ∷ ts ≡ onto_specifier x us) × ShapeSpecifier t.types x × (words_of x ≡ of_whole ∷ [])
+Read (an_enum t d) ts m x us n = (keyword (codes "enum") ∷ ts ≡ onto_specifier x us) × ShapeSpecifier t.types x × (words_of x ≡ tw.Whole ∷ [])
 Read (all_enumerators t d) ts m es us n = (ts ≡ onto_enumerators es.0 (onto_trailing es.1 (mark (codes "}") ∷ us))) × HasEnumerator es.0 × ShapeEnumerators t.types es.0
 Read (more_enumerators t d) ts m es us n = (ts ≡ onto_more_enumerators es.0 (onto_trailing es.1 (mark (codes "}") ∷ us))) × ShapeEnumerators t.types es.0
 Read all_stars ts m ss us n = ts ≡ onto_stars ss us

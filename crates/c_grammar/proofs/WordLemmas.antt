@@ -4,7 +4,9 @@ use Rattle.std.specs.List.{list_all, count_by}
 use Rattle.std.proofs.lemmas.List.Sums.{sum_by-cons, sum_by-append, sum_by_push}
 use Rattle.std.proofs.lemmas.Bool.{and_from, and_parts}
 use Rattle.std.proofs.lemmas.Bool.Decides.{nat_tests}
-use Rattle.c_tree.specs.TypeWords.{TypeWord, of_void, of_char, of_signed, of_unsigned, of_whole, is_integer_word, is_short, is_int, is_long, is_sign, is_integer_type, is_one_type}
+use Rattle.c_tree.specs.TypeWords.{is_integer_word, is_short, is_int, is_long, is_sign, is_integer_type, is_one_type}
+use Rattle.c_tree.specs.declared.type_word.TypeWord.{TypeWord}
+use Rattle.c_tree.specs.declared.type_word.TypeWord.TheVariants as tw
 
 fewer : (p : TypeWord → Bool) (us : List TypeWord) (w : TypeWord) (vs : List TypeWord) → count_by p (us ++ w ∷ []) ≤ count_by p (us ++ w ∷ vs)
 fewer p us w vs =
@@ -39,29 +41,29 @@ integer_fewer us w vs e =
     (and_from (list_all is_integer_word ys) (nat_le 1 (length ys)) (all_fewer is_integer_word us w vs m.0) long) signs) ints) longs
 
 integer_one : (xs : List TypeWord) → is_integer_type xs ≡ true → is_one_type xs ≡ true
-integer_one (of_void ∷ []) h = refl
-integer_one (of_char ∷ []) h = refl
-integer_one (of_signed ∷ of_char ∷ []) h = refl
-integer_one (of_unsigned ∷ of_char ∷ []) h = refl
-integer_one (of_whole ∷ []) h = refl
+integer_one (tw.Void ∷ []) h = refl
+integer_one (tw.Char ∷ []) h = refl
+integer_one (tw.Signed ∷ tw.Char ∷ []) h = refl
+integer_one (tw.Unsigned ∷ tw.Char ∷ []) h = refl
+integer_one (tw.Whole ∷ []) h = refl
 integer_one _ h = h
 
 one_alone : (w : TypeWord) → is_one_type (w ∷ []) ≡ true
-one_alone of_void = refl
+one_alone tw.Void = refl
 one_alone _ = refl
 
 -- two words and more name an integer, or a character
 one_integer : (u : TypeWord) (us : List TypeWord) (w : TypeWord) (vs : List TypeWord) → is_one_type (u ∷ (us ++ w ∷ vs)) ≡ true →
     (is_integer_type (u ∷ (us ++ w ∷ vs)) ≡ true) ⊎ (is_one_type (u ∷ (us ++ w ∷ [])) ≡ true)
-one_integer of_signed [] of_char vs e = inr refl
-one_integer of_unsigned [] of_char vs e = inr refl
-one_integer of_signed [] w vs e = inl e
-one_integer of_unsigned [] w vs e = inl e
+one_integer tw.Signed [] tw.Char vs e = inr refl
+one_integer tw.Unsigned [] tw.Char vs e = inr refl
+one_integer tw.Signed [] w vs e = inl e
+one_integer tw.Unsigned [] w vs e = inl e
 one_integer u [] w vs e = inl e
-one_integer of_signed (of_char ∷ []) w vs e = inl e
-one_integer of_unsigned (of_char ∷ []) w vs e = inl e
-one_integer of_signed (of_char ∷ (x ∷ xs)) w vs e = inl e
-one_integer of_unsigned (of_char ∷ (x ∷ xs)) w vs e = inl e
+one_integer tw.Signed (tw.Char ∷ []) w vs e = inl e
+one_integer tw.Unsigned (tw.Char ∷ []) w vs e = inl e
+one_integer tw.Signed (tw.Char ∷ (x ∷ xs)) w vs e = inl e
+one_integer tw.Unsigned (tw.Char ∷ (x ∷ xs)) w vs e = inl e
 one_integer u (x ∷ xs) w vs e = inl e
 
 -- where words name a type, so do the first of them

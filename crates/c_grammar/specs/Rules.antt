@@ -5,23 +5,30 @@
 -- depth d + 1. owed counts the nodes that the first token makes necessary and that were not counted before: those that stand
 -- in its place whatever follows are counted with the token that asks for them.
 use Rattle.std.specs.Prelude.{ℕ, suc, ◌+◌, Bool, true, false, ◌&&◌, ◌||◌, nat_le, List, [], ◌∷◌, ◌++◌, Option, Some, None, if◌then◌else◌}
-use Rattle.c_tree.specs.declared.tree.AssignOp.{AssignOp}
 use Rattle.c_tree.specs.declared.tree.AssignOp.TheVariants as a
-use Rattle.c_tree.specs.declared.tree.BinaryOp.{BinaryOp}
 use Rattle.c_tree.specs.declared.tree.BinaryOp.TheVariants as b
-use Rattle.c_tree.specs.declared.tree.UnaryOp.{UnaryOp}
 use Rattle.c_tree.specs.declared.tree.UnaryOp.TheVariants as u
-use Rattle.c_tree.specs.declared.tree.StepOp.{StepOp}
 use Rattle.c_tree.specs.declared.tree.StepOp.TheVariants as s
 use Rattle.c_tree.specs.declared.tree.Storage.{Storage}
 use Rattle.c_tree.specs.declared.tree.Storage.TheVariants as st
+use Rattle.c_tree.specs.declared.tree.Qual.{Qual}
 use Rattle.c_tree.specs.declared.tree.Qual.TheVariants as q
-use Rattle.c_tree.specs.TypeWords.{TypeWord, of_void, of_char, of_short, of_int, of_long, of_signed, of_unsigned, of_whole, is_one_type, is_among, has_tag}
+use Rattle.c_tree.specs.declared.type_word.TypeWord.{TypeWord}
+use Rattle.c_tree.specs.declared.type_word.TypeWord.TheVariants as tw
+use Rattle.c_tree.specs.TypeWords.{is_one_type, is_among, has_tag}
 use Rattle.c_tree.specs.ExpressionShape.{op_level, level}
-use Rattle.c_tree.specs.Shape.{Scope, Place, of_loop, of_branch, of_block, of_switch, outside, behind_specifiers, behind_named, behind_item}
+use Rattle.c_tree.specs.Shape.{Scope, Context, of_loop, of_branch, of_block, of_switch, outside, behind_specifiers, behind_named, behind_item}
 use Rattle.c_tree.specs.Tree.{Name, Quals, Stars, Expression, comma, assign, choose, binary, cast, unary, before, size_of, size_of_type, index, call, dot, arrow, after, name, integer, character, text, paren, Expressions, no_expressions, expressions, Sizes, no_sizes, open_size, size, TypeTree, typed, Specifiers, no_specifiers, specifiers, Specifier, const_word, volatile_word, void_word, char_word, short_word, int_word, long_word, signed_word, unsigned_word, type_name, struct_tag, struct_of, enum_tag, enum_of, Members, no_members, member, Declarators, no_declarators, declarators, Enumerators, no_enumerators, enumerator, enumerator_with, DeclaratorTree, plain, array, function, pointer, Parameters, no_parameters, parameters, ParameterForm, named_form, bare_form, BareTree, bare_stars, bare_pointer, Initializer, single, listed, Initializers, no_initializers, initializers, NamedTree, DeclarationTree, ForStartTree, start_declaration, start_expression, StatementTree, block, declaration, expression_statement, if_statement, if_else_statement, while_statement, do_statement, for_statement, switch_statement, case_label, default_label, named_label, break_statement, continue_statement, return_statement, goto_statement, Statements, no_statements, statements, ItemTree, function_item, declaration_item}
 use Rattle.c_grammar.specs.declared.kind.Kind.{Kind}
 use Rattle.c_grammar.specs.declared.kind.Kind.TheVariants as k
+use Rattle.c_grammar.specs.declared.infix.First.{First}
+use Rattle.c_grammar.specs.declared.infix.First.TheVariants as fi
+use Rattle.c_grammar.specs.declared.infix.Infix.{Infix}
+use Rattle.c_grammar.specs.declared.infix.Infix.TheVariants as ix
+use Rattle.c_grammar.specs.declared.start.Start.{Start}
+use Rattle.c_grammar.specs.declared.start.Start.TheVariants as sp
+use Rattle.c_grammar.specs.declared.start.TypeKeyword.{TypeKeyword}
+use Rattle.c_grammar.specs.declared.start.TypeKeyword.TheVariants as kw
 use Rattle.c_grammar.specs.Kind.{same_kind}
 use Rattle.c_grammar.specs.Body.{Body, done, stop, look, take, spend, rise, scope}
 use Rattle.c_grammar.specs.Body as body
@@ -98,9 +105,9 @@ pub data Rule : Type 0 where
   -- an expression and this token, or the token alone
   an_optional : NameEnvironment → ℕ → Kind → Rule
   a_start : NameEnvironment → ℕ → Rule
-  a_statement : NameEnvironment → ℕ → Place → ℕ → Rule
+  a_statement : NameEnvironment → ℕ → Context → ℕ → Rule
   -- the statements of a block, with the closing brace
-  all_statements : NameEnvironment → ℕ → Place → Rule
+  all_statements : NameEnvironment → ℕ → Context → Rule
   -- a name that is declared outside functions
   an_outer : Storage → Scope → Rule
   more_outer : Storage → Scope → Rule
@@ -190,142 +197,135 @@ a_new_name t f = look (barred t) (named_by [] f)
 -- ---- expressions
 
 -- what an operand begins with
-pub data First : Type 0 where
-  no_operand : First
-  a_word : First
-  a_number : First
-  a_character : First
-  a_text : First
-  an_open : First
-  a_sizeof : First
-  a_step : StepOp → First
-  a_unary : UnaryOp → First
-
-abbrev pub first_of_operand : Kind → First
-first_of_operand k.Name = a_word
-first_of_operand k.Integer = a_number
-first_of_operand k.Character = a_character
-first_of_operand k.Text = a_text
-first_of_operand k.OpenParen = an_open
-first_of_operand k.Sizeof = a_sizeof
-first_of_operand k.PlusPlus = a_step s.Up
-first_of_operand k.MinusMinus = a_step s.Down
-first_of_operand k.Ampersand = a_unary u.Address
-first_of_operand k.Star = a_unary u.Follow
-first_of_operand k.Plus = a_unary u.Plus
-first_of_operand k.Minus = a_unary u.Minus
-first_of_operand k.Tilde = a_unary u.BitNot
-first_of_operand k.Exclamation = a_unary u.Not
-first_of_operand _ = no_operand
+abbrev pub first_of_operand : Kind → Option First
+first_of_operand k.Name = Some fi.Word
+first_of_operand k.Integer = Some fi.Number
+first_of_operand k.Character = Some fi.Character
+first_of_operand k.Text = Some fi.Text
+first_of_operand k.OpenParen = Some fi.Open
+first_of_operand k.Sizeof = Some fi.Sizeof
+first_of_operand k.PlusPlus = Some (fi.Step s.Up)
+first_of_operand k.MinusMinus = Some (fi.Step s.Down)
+first_of_operand k.Ampersand = Some (fi.Unary u.Address)
+first_of_operand k.Star = Some (fi.Unary u.Follow)
+first_of_operand k.Plus = Some (fi.Unary u.Plus)
+first_of_operand k.Minus = Some (fi.Unary u.Minus)
+first_of_operand k.Tilde = Some (fi.Unary u.BitNot)
+first_of_operand k.Exclamation = Some (fi.Unary u.Not)
+first_of_operand _ = None
 
 -- what an expression goes on with
-pub data Infix : Type 0 where
-  no_infix : Infix
-  a_comma : Infix
-  an_assign : AssignOp → Infix
-  a_question : Infix
-  an_operator : BinaryOp → Infix
-  an_index : Infix
-  a_call : Infix
-  a_dot : Infix
-  an_arrow : Infix
-  a_step_behind : StepOp → Infix
-
-abbrev pub infix_of : Kind → Infix
-infix_of k.Comma = a_comma
-infix_of k.Assign = an_assign a.Plain
-infix_of k.StarAssign = an_assign a.Mul
-infix_of k.SlashAssign = an_assign a.Div
-infix_of k.PercentAssign = an_assign a.Rem
-infix_of k.PlusAssign = an_assign a.Add
-infix_of k.MinusAssign = an_assign a.Sub
-infix_of k.LessLessAssign = an_assign a.ShiftLeft
-infix_of k.GreaterGreaterAssign = an_assign a.ShiftRight
-infix_of k.AmpersandAssign = an_assign a.BitAnd
-infix_of k.CaretAssign = an_assign a.BitXor
-infix_of k.BarAssign = an_assign a.BitOr
-infix_of k.Question = a_question
-infix_of k.BarBar = an_operator b.Or
-infix_of k.AmpersandAmpersand = an_operator b.And
-infix_of k.Bar = an_operator b.BitOr
-infix_of k.Caret = an_operator b.BitXor
-infix_of k.Ampersand = an_operator b.BitAnd
-infix_of k.EqualEqual = an_operator b.Equal
-infix_of k.NotEqual = an_operator b.Unequal
-infix_of k.Less = an_operator b.Less
-infix_of k.Greater = an_operator b.Greater
-infix_of k.LessEqual = an_operator b.AtMost
-infix_of k.GreaterEqual = an_operator b.AtLeast
-infix_of k.LessLess = an_operator b.ShiftLeft
-infix_of k.GreaterGreater = an_operator b.ShiftRight
-infix_of k.Plus = an_operator b.Add
-infix_of k.Minus = an_operator b.Sub
-infix_of k.Star = an_operator b.Mul
-infix_of k.Slash = an_operator b.Div
-infix_of k.Percent = an_operator b.Rem
-infix_of k.OpenBracket = an_index
-infix_of k.OpenParen = a_call
-infix_of k.Dot = a_dot
-infix_of k.Arrow = an_arrow
-infix_of k.PlusPlus = a_step_behind s.Up
-infix_of k.MinusMinus = a_step_behind s.Down
-infix_of _ = no_infix
+abbrev pub infix_of : Kind → Option Infix
+infix_of k.Comma = Some ix.Comma
+infix_of k.Assign = Some (ix.Assign a.Plain)
+infix_of k.StarAssign = Some (ix.Assign a.Mul)
+infix_of k.SlashAssign = Some (ix.Assign a.Div)
+infix_of k.PercentAssign = Some (ix.Assign a.Rem)
+infix_of k.PlusAssign = Some (ix.Assign a.Add)
+infix_of k.MinusAssign = Some (ix.Assign a.Sub)
+infix_of k.LessLessAssign = Some (ix.Assign a.ShiftLeft)
+infix_of k.GreaterGreaterAssign = Some (ix.Assign a.ShiftRight)
+infix_of k.AmpersandAssign = Some (ix.Assign a.BitAnd)
+infix_of k.CaretAssign = Some (ix.Assign a.BitXor)
+infix_of k.BarAssign = Some (ix.Assign a.BitOr)
+infix_of k.Question = Some ix.Question
+infix_of k.BarBar = Some (ix.Operator b.Or)
+infix_of k.AmpersandAmpersand = Some (ix.Operator b.And)
+infix_of k.Bar = Some (ix.Operator b.BitOr)
+infix_of k.Caret = Some (ix.Operator b.BitXor)
+infix_of k.Ampersand = Some (ix.Operator b.BitAnd)
+infix_of k.EqualEqual = Some (ix.Operator b.Equal)
+infix_of k.NotEqual = Some (ix.Operator b.Unequal)
+infix_of k.Less = Some (ix.Operator b.Less)
+infix_of k.Greater = Some (ix.Operator b.Greater)
+infix_of k.LessEqual = Some (ix.Operator b.AtMost)
+infix_of k.GreaterEqual = Some (ix.Operator b.AtLeast)
+infix_of k.LessLess = Some (ix.Operator b.ShiftLeft)
+infix_of k.GreaterGreater = Some (ix.Operator b.ShiftRight)
+infix_of k.Plus = Some (ix.Operator b.Add)
+infix_of k.Minus = Some (ix.Operator b.Sub)
+infix_of k.Star = Some (ix.Operator b.Mul)
+infix_of k.Slash = Some (ix.Operator b.Div)
+infix_of k.Percent = Some (ix.Operator b.Rem)
+infix_of k.OpenBracket = Some ix.Index
+infix_of k.OpenParen = Some ix.Call
+infix_of k.Dot = Some ix.Dot
+infix_of k.Arrow = Some ix.Arrow
+infix_of k.PlusPlus = Some (ix.Step s.Up)
+infix_of k.MinusMinus = Some (ix.Step s.Down)
+infix_of _ = None
 
 -- the level of the expression that it makes, and the least level of the operand before it
-abbrev pub own_level : Infix → ℕ
-own_level no_infix = 0
-own_level a_comma = 1
-own_level (an_assign o) = 2
-own_level a_question = 3
-own_level (an_operator o) = op_level o
-own_level an_index = 16
-own_level a_call = 16
-own_level a_dot = 16
-own_level an_arrow = 16
-own_level (a_step_behind o) = 16
+abbrev pub own_level : Option Infix → ℕ
+own_level None = 0
+own_level (Some ix.Comma) = 1
+own_level (Some (ix.Assign o)) = 2
+own_level (Some ix.Question) = 3
+own_level (Some (ix.Operator o)) = op_level o
+own_level (Some ix.Index) = 16
+own_level (Some ix.Call) = 16
+own_level (Some ix.Dot) = 16
+own_level (Some ix.Arrow) = 16
+own_level (Some (ix.Step o)) = 16
 
-abbrev pub left_level : Infix → ℕ
-left_level no_infix = 0
-left_level a_comma = 1
-left_level (an_assign o) = 15
-left_level a_question = 4
-left_level (an_operator o) = op_level o
-left_level an_index = 16
-left_level a_call = 16
-left_level a_dot = 16
-left_level an_arrow = 16
-left_level (a_step_behind o) = 16
+abbrev pub left_level : Option Infix → ℕ
+left_level None = 0
+left_level (Some ix.Comma) = 1
+left_level (Some (ix.Assign o)) = 15
+left_level (Some ix.Question) = 4
+left_level (Some (ix.Operator o)) = op_level o
+left_level (Some ix.Index) = 16
+left_level (Some ix.Call) = 16
+left_level (Some ix.Dot) = 16
+left_level (Some ix.Arrow) = 16
+left_level (Some (ix.Step o)) = 16
 
 -- an expression of at least this level goes on behind one of that level
-abbrev pub goes_on : ℕ → Infix → ℕ → Bool
+abbrev pub goes_on : ℕ → Option Infix → ℕ → Bool
 goes_on least i l = nat_le least (own_level i) && nat_le (left_level i) l
 
+-- the specifier that is this qualifier, and the one that is this keyword
+abbrev pub qualifier_of : Qual → Specifier
+qualifier_of q.Const = const_word
+qualifier_of q.Volatile = volatile_word
+
+abbrev pub keyword_of : TypeKeyword → Specifier
+keyword_of kw.Void = void_word
+keyword_of kw.Char = char_word
+keyword_of kw.Short = short_word
+keyword_of kw.Int = int_word
+keyword_of kw.Long = long_word
+keyword_of kw.Signed = signed_word
+keyword_of kw.Unsigned = unsigned_word
+
+-- the word of the type that a keyword is
+abbrev pub type_word : TypeKeyword → TypeWord
+type_word kw.Void = tw.Void
+type_word kw.Char = tw.Char
+type_word kw.Short = tw.Short
+type_word kw.Int = tw.Int
+type_word kw.Long = tw.Long
+type_word kw.Signed = tw.Signed
+type_word kw.Unsigned = tw.Unsigned
+
 -- what the specifiers of a type begin with, and go on with
-pub data Start : Type 0 where
-  no_specifier : Start
-  a_qualifier : Specifier → Start
-  a_type_word : TypeWord → Specifier → Start
-  a_type_name : Start
-  a_struct_word : Start
-  an_enum_word : Start
+abbrev pub start_of : Kind → Option Start
+start_of k.Const = Some (sp.Qualifier q.Const)
+start_of k.Volatile = Some (sp.Qualifier q.Volatile)
+start_of k.Void = Some (sp.Keyword kw.Void)
+start_of k.Char = Some (sp.Keyword kw.Char)
+start_of k.Short = Some (sp.Keyword kw.Short)
+start_of k.Int = Some (sp.Keyword kw.Int)
+start_of k.Long = Some (sp.Keyword kw.Long)
+start_of k.Signed = Some (sp.Keyword kw.Signed)
+start_of k.Unsigned = Some (sp.Keyword kw.Unsigned)
+start_of k.TypeName = Some sp.TypeName
+start_of k.Struct = Some sp.Struct
+start_of k.Enum = Some sp.Enum
+start_of _ = None
 
-abbrev pub start_of : Kind → Start
-start_of k.Const = a_qualifier const_word
-start_of k.Volatile = a_qualifier volatile_word
-start_of k.Void = a_type_word of_void void_word
-start_of k.Char = a_type_word of_char char_word
-start_of k.Short = a_type_word of_short short_word
-start_of k.Int = a_type_word of_int int_word
-start_of k.Long = a_type_word of_long long_word
-start_of k.Signed = a_type_word of_signed signed_word
-start_of k.Unsigned = a_type_word of_unsigned unsigned_word
-start_of k.TypeName = a_type_name
-start_of k.Struct = a_struct_word
-start_of k.Enum = an_enum_word
-start_of _ = no_specifier
-
-abbrev pub is_start : Start → Bool
-is_start no_specifier = false
+abbrev pub is_start : Option Start → Bool
+is_start None = false
 is_start _ = true
 
 -- a type begins with it
@@ -376,43 +376,43 @@ sizeof_by t d _ = do
   x ← an_expression t (d + 1) 15 1
   done (size_of x)
 
-abbrev pub prefix_by : NameEnvironment → ℕ → ℕ → ℕ → First → Reads Expression
-prefix_by t d least owed no_operand = stop
-prefix_by t d least owed a_word = spend owed (d + 1) (take (λ n. done (name n)))
-prefix_by t d least owed a_number = spend owed (d + 1) (take (λ n. done (integer n)))
-prefix_by t d least owed a_character = spend owed (d + 1) (take (λ n. done (character n)))
-prefix_by t d least owed a_text = spend owed (d + 1) (take (λ n. body.call more_texts (λ ns. done (text (n ∷ ns)))))
-prefix_by t d least owed an_open = spend (owed + 1) (d + 2) (skip (look t.types (opened_by t d least)))
-prefix_by t d least owed a_sizeof = spend owed (d + 1) (skip (look t.types (sizeof_by t d)))
-prefix_by t d least owed (a_step o) = do
+abbrev pub prefix_by : NameEnvironment → ℕ → ℕ → ℕ → Option First → Reads Expression
+prefix_by t d least owed None = stop
+prefix_by t d least owed (Some fi.Word) = spend owed (d + 1) (take (λ n. done (name n)))
+prefix_by t d least owed (Some fi.Number) = spend owed (d + 1) (take (λ n. done (integer n)))
+prefix_by t d least owed (Some fi.Character) = spend owed (d + 1) (take (λ n. done (character n)))
+prefix_by t d least owed (Some fi.Text) = spend owed (d + 1) (take (λ n. body.call more_texts (λ ns. done (text (n ∷ ns)))))
+prefix_by t d least owed (Some fi.Open) = spend (owed + 1) (d + 2) (skip (look t.types (opened_by t d least)))
+prefix_by t d least owed (Some fi.Sizeof) = spend owed (d + 1) (skip (look t.types (sizeof_by t d)))
+prefix_by t d least owed (Some (fi.Step o)) = do
   spend (owed + 1) (d + 2)
   skip
   x ← an_expression t (d + 1) 15 0
   done (before o x)
-prefix_by t d least owed (a_unary o) = do
+prefix_by t d least owed (Some (fi.Unary o)) = do
   spend (owed + 1) (d + 2)
   skip
   x ← an_expression t (d + 1) 14 0
   done (unary o x)
 
 -- how an expression of at least a level goes on behind x
-abbrev pub longer : NameEnvironment → ℕ → ℕ → Expression → Infix → Reads Expression
-longer t d least x no_infix = done x
-longer t d least x a_comma = do
+abbrev pub longer : NameEnvironment → ℕ → ℕ → Expression → Option Infix → Reads Expression
+longer t d least x None = done x
+longer t d least x (Some ix.Comma) = do
   rise
   spend 2 (d + 2)
   skip
   y ← an_expression t (d + 1) 2 0
   z ← a_rest t d least (comma x y)
   done z
-longer t d least x (an_assign o) = do
+longer t d least x (Some (ix.Assign o)) = do
   rise
   spend 2 (d + 2)
   skip
   y ← an_expression t (d + 1) 2 0
   z ← a_rest t d least (assign o x y)
   done z
-longer t d least x a_question = do
+longer t d least x (Some ix.Question) = do
   rise
   spend 3 (d + 2)
   skip
@@ -421,14 +421,14 @@ longer t d least x a_question = do
   w ← an_expression t (d + 1) 3 0
   z ← a_rest t d least (choose x y w)
   done z
-longer t d least x (an_operator o) = do
+longer t d least x (Some (ix.Operator o)) = do
   rise
   spend 2 (d + 2)
   skip
   y ← an_expression t (d + 1) (suc (op_level o)) 0
   z ← a_rest t d least (binary o x y)
   done z
-longer t d least x an_index = do
+longer t d least x (Some ix.Index) = do
   rise
   spend 2 (d + 2)
   skip
@@ -436,16 +436,16 @@ longer t d least x an_index = do
   expect k.CloseBracket
   z ← a_rest t d least (index x y)
   done z
-longer t d least x a_call = do
+longer t d least x (Some ix.Call) = do
   rise
   spend 1 (d + 1)
   skip
   xs ← all_arguments t (d + 1)
   z ← a_rest t d least (call x xs)
   done z
-longer t d least x a_dot = rise (spend 1 (d + 1) (skip (a_name t (λ n. body.call (a_rest t d least (dot x n)) done))))
-longer t d least x an_arrow = rise (spend 1 (d + 1) (skip (a_name t (λ n. body.call (a_rest t d least (arrow x n)) done))))
-longer t d least x (a_step_behind o) = do
+longer t d least x (Some ix.Dot) = rise (spend 1 (d + 1) (skip (a_name t (λ n. body.call (a_rest t d least (dot x n)) done))))
+longer t d least x (Some ix.Arrow) = rise (spend 1 (d + 1) (skip (a_name t (λ n. body.call (a_rest t d least (arrow x n)) done))))
+longer t d least x (Some (ix.Step o)) = do
   rise
   spend 1 (d + 1)
   skip
@@ -486,26 +486,26 @@ with_word ws w f = if is_one_type (ws ++ w ∷ []) then f else ends_type ws
 abbrev pub naming : {A : Type 0} → Bool → ℕ → Reads A → Reads A
 naming b d f = if b then spend 1 (d + 1) f else f
 
-abbrev pub specifiers_by : NameEnvironment → ℕ → Bool → List TypeWord → Start → Reads Specifiers
-specifiers_by t d b ws no_specifier = ends_type ws
-specifiers_by t d b ws (a_qualifier x) = do
+abbrev pub specifiers_by : NameEnvironment → ℕ → Bool → List TypeWord → Option Start → Reads Specifiers
+specifiers_by t d b ws None = ends_type ws
+specifiers_by t d b ws (Some (sp.Qualifier x)) = do
   skip
   xs ← all_specifiers t d b ws
-  done (specifiers x xs)
-specifiers_by t d b ws (a_type_word w x) = with_word ws w (naming b d (do
+  done (specifiers (qualifier_of x) xs)
+specifiers_by t d b ws (Some (sp.Keyword x)) = with_word ws (type_word x) (naming b d (do
   skip
-  xs ← all_specifiers t d false (ws ++ w ∷ [])
-  done (specifiers x xs)))
-specifiers_by t d b ws a_type_name = with_word ws of_whole (naming b d (take (λ n. body.call (all_specifiers t d false (ws ++ of_whole ∷ [])) (λ xs. done (specifiers (type_name n) xs)))))
-specifiers_by t d b ws a_struct_word = with_word ws of_whole (do
+  xs ← all_specifiers t d false (ws ++ type_word x ∷ [])
+  done (specifiers (keyword_of x) xs)))
+specifiers_by t d b ws (Some sp.TypeName) = with_word ws tw.Whole (naming b d (take (λ n. body.call (all_specifiers t d false (ws ++ tw.Whole ∷ [])) (λ xs. done (specifiers (type_name n) xs)))))
+specifiers_by t d b ws (Some sp.Struct) = with_word ws tw.Whole (do
   skip
   x ← a_struct t d
-  xs ← all_specifiers t d false (ws ++ of_whole ∷ [])
+  xs ← all_specifiers t d false (ws ++ tw.Whole ∷ [])
   done (specifiers x xs))
-specifiers_by t d b ws an_enum_word = with_word ws of_whole (do
+specifiers_by t d b ws (Some sp.Enum) = with_word ws tw.Whole (do
   skip
   x ← an_enum t d
-  xs ← all_specifiers t d false (ws ++ of_whole ∷ [])
+  xs ← all_specifiers t d false (ws ++ tw.Whole ∷ [])
   done (specifiers x xs))
 
 -- the members, or the tag alone
@@ -824,7 +824,7 @@ start_by t d kind =
       done (start_expression x))
 
 -- behind the branch of an if
-abbrev pub else_by : NameEnvironment → ℕ → Place → Expression → StatementTree → Kind → Reads StatementTree
+abbrev pub else_by : NameEnvironment → ℕ → Context → Expression → StatementTree → Kind → Reads StatementTree
 else_by t d p x y k.Else = do
   spend 1 (d + 2)
   skip
@@ -852,7 +852,7 @@ labelled_by t d n kind =
     then spend 1 (d + 2) (scope (d + 2) (a_rest t (d + 1) 1 (name n)) (λ x. expect k.Semicolon (done (expression_statement (Some x)))))
     else stop
 
-abbrev pub statement_by : NameEnvironment → ℕ → Place → ℕ → Kind → Reads StatementTree
+abbrev pub statement_by : NameEnvironment → ℕ → Context → ℕ → Kind → Reads StatementTree
 statement_by t d p owed k.OpenBrace = do
   spend owed (d + 1)
   skip
@@ -941,7 +941,7 @@ statement_by t d p owed kind =
       done (declaration x)) else stop)
     else expressed t d owed
 
-abbrev pub statements_by : NameEnvironment → ℕ → Place → Kind → Reads Statements
+abbrev pub statements_by : NameEnvironment → ℕ → Context → Kind → Reads Statements
 statements_by t d p k.CloseBrace = skip (done no_statements)
 statements_by t d p _ = body.strict (a_statement t d p 1) (λ x. body.call (all_statements t d p) (λ xs. done (statements x xs)))
 

@@ -1,5 +1,6 @@
 -- What the steps of a rule ensure of the input before and behind them.
 use Rattle.std.specs.Prelude.{◌≡◌, ◌≤◌, ℕ, [], length, Some, None, Result, Ok, Err, true, false}
+use Rattle.base_core.specs.Limits.{most_depth}
 use Rattle.c_tree.specs.Tree.{Name}
 use Rattle.c_grammar.specs.declared.kind.Kind.{Kind}
 use Rattle.c_grammar.specs.Kind.{kind, same_kind, head_text}
@@ -12,7 +13,7 @@ use Rattle.c_grammar.specs.declared.refusal.Refusal.TheVariants.{Syntax, Large, 
 pub record Spent (n d : ℕ) (i j : Input) : Type 0 where
   pub same : j.rest ≡ i.rest
   pub paid : within (added n d i.meter) ≡ Some j.meter
-  pub small : d ≤ 1000
+  pub small : d ≤ most_depth
 
 -- they pass a limit
 pub record Unspent (n d : ℕ) (i : Input) (e : Refusal) : Type 0 where

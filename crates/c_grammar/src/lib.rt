@@ -14,17 +14,21 @@
 
 mod cursor;
 mod environment;
+mod infix;
 mod kind;
 mod law;
 mod names;
 mod refusal;
+mod start;
 pub mod steps;
 
 pub use cursor::Cursor;
 pub use environment::NameEnvironment;
+pub use infix::{First, Infix};
 pub use kind::{
     Kind, assignment_operator, binary_operator, kind_of, same_kind, step_operator, unary_operator,
 };
 pub use law::{equal_spellings_are_equal_trees, keywords_are_those_of_the_lexis};
 pub use names::Names;
 pub use refusal::Refusal;
+pub use start::{Start, TypeKeyword};

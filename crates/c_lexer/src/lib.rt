@@ -30,6 +30,3 @@ pub use fault::LexFault;
 pub use fault_place::fault_file;
 pub use lexis::scan;
 pub use tokens::Tokens;
-
-#[cfg(test)]
-mod tests;

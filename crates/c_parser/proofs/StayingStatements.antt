@@ -4,7 +4,7 @@ use Rattle.c_tree.specs.declared.tree.Storage.{Storage}
 use Rattle.c_tree.specs.TypeWords.{has_tag}
 use Rattle.c_tree.specs.Tree.{Name, Expression, name, Specifiers, DeclaratorTree, NamedTree, StatementTree, declaration, expression_statement}
 use Rattle.c_tree.specs.Marks.{Tokens}
-use Rattle.c_tree.specs.Shape.{Place}
+use Rattle.c_tree.specs.Shape.{Context}
 use Rattle.c_grammar.specs.declared.kind.Kind.{Kind}
 use Rattle.c_grammar.specs.declared.kind.Kind.TheVariants as k
 use Rattle.c_grammar.specs.Kind.{same_kind}
@@ -104,15 +104,15 @@ start-kept t d ts m = go_look (λ e is. go_if {b = begins_declaration e}
     (λ yes. pays (λ y deep g. go_call (λ x us n p. go_done (λ f. p g))))
     (λ no. go_call (λ x us n p. go_done p)))
 
-else-by : (t : NameEnvironment) (d : ℕ) (p : Place) (o : ℕ) (x : Expression) (y : StatementTree) (e : Kind) (ts us : Tokens) (m n : Meter) → Fits n →
+else-by : (t : NameEnvironment) (d : ℕ) (p : Context) (o : ℕ) (x : Expression) (y : StatementTree) (e : Kind) (ts us : Tokens) (m n : Meter) → Fits n →
     Safe (else_by t d p x y e) (Stays (a_statement t d p o) ts m) us n
 else-by t d p o x y k.Else ts us m n g = pays (λ y' deep i. skips (λ _ vs. go_call (λ z ws q h. go_done (λ f. h i))))
 else-by t d p o x y _ ts us m n g = go_done (λ f. g)
 
-expressed-by : (t : NameEnvironment) (d : ℕ) (p : Place) (o : ℕ) (ts : Tokens) (m : Meter) → Safe (expressed t d o) (Stays (a_statement t d p o) ts m) ts m
+expressed-by : (t : NameEnvironment) (d : ℕ) (p : Context) (o : ℕ) (ts : Tokens) (m : Meter) → Safe (expressed t d o) (Stays (a_statement t d p o) ts m) ts m
 expressed-by t d p o ts m = go_call (λ x us n q. wants k.Semicolon (λ vs. go_done (λ f. q.1 f.peak)))
 
-labelled-rest : (t : NameEnvironment) (d : ℕ) (p : Place) (o : ℕ) (a : Name) (e : Kind) (ts us : Tokens) (m n : Meter) →
+labelled-rest : (t : NameEnvironment) (d : ℕ) (p : Context) (o : ℕ) (a : Name) (e : Kind) (ts us : Tokens) (m n : Meter) →
     Safe (cond (follows_name e) (body.spend 1 (d + 2) (body.scope (d + 2) (a_rest t (d + 1) 1 (name a))
     (λ x. body.look [] (λ j. cond (same_kind j k.Semicolon) (body.take (λ b. done (expression_statement (Some x)))) body.stop)))) body.stop)
     (Stays (a_statement t d p o) ts m) us n
@@ -120,19 +120,19 @@ labelled-rest t d p o a e ts us m n = go_if {b = follows_name e}
     (λ yes. pays (λ y deep g. go_scope (λ x vs q h. wants k.Semicolon (λ ws. go_done (λ f. fits-left y q g.peak (h (fits-entered (d + 2) y deep g)))))))
     (λ no. go_stop)
 
-labelled-by : (t : NameEnvironment) (d : ℕ) (p : Place) (o : ℕ) (a : Name) (e : Kind) (ts us : Tokens) (m n : Meter) → Fits n →
+labelled-by : (t : NameEnvironment) (d : ℕ) (p : Context) (o : ℕ) (a : Name) (e : Kind) (ts us : Tokens) (m n : Meter) → Fits n →
     Safe (labelled_by t d a e) (Stays (a_statement t d p o) ts m) us n
 labelled-by t d p o a k.Colon ts us m n g = skips (λ _ vs. go_done (λ f. g))
 labelled-by t d p o a e ts us m n g = labelled-rest t d p o a e ts us m n
 
 -- a declaration or an expression
-statement-else : (t : NameEnvironment) (d : ℕ) (p : Place) (o : ℕ) (e : Kind) (ts : Tokens) (m : Meter) →
+statement-else : (t : NameEnvironment) (d : ℕ) (p : Context) (o : ℕ) (e : Kind) (ts : Tokens) (m : Meter) →
     Safe (cond (begins_declaration e) (cond p.in_block (body.spend o (d + 1) (body.call (a_declaration t (d + 1)) (λ x. done (declaration x)))) body.stop) (expressed t d o)) (Stays (a_statement t d p o) ts m) ts m
 statement-else t d p o e ts m = go_if {b = begins_declaration e}
     (λ yes. go_if {b = p.in_block} (λ inside. pays (λ y deep g. go_call (λ x us n q. go_done (λ f. q g)))) (λ out. go_stop))
     (λ no. expressed-by t d p o ts m)
 
-statement-by : (t : NameEnvironment) (d : ℕ) (p : Place) (o : ℕ) (e : Kind) (ts : Tokens) (m : Meter) → Safe (statement_by t d p o e) (Stays (a_statement t d p o) ts m) ts m
+statement-by : (t : NameEnvironment) (d : ℕ) (p : Context) (o : ℕ) (e : Kind) (ts : Tokens) (m : Meter) → Safe (statement_by t d p o e) (Stays (a_statement t d p o) ts m) ts m
 statement-by t d p o k.OpenBrace ts m = pays (λ y deep g. skips (λ _ us. go_call (λ ss vs n q. go_done (λ f. q g))))
 statement-by t d p o k.Semicolon ts m = pays (λ y deep g. skips (λ _ us. go_done (λ f. g)))
 statement-by t d p o k.If ts m = pays (λ y deep g. skips (λ _ us. wants k.OpenParen (λ vs. go_call (λ x ws n q. wants k.CloseParen (λ xs. go_call (λ z ys n' r.
@@ -151,12 +151,12 @@ statement-by t d p o k.Goto ts m = pays (λ y deep g. skips (λ _ us. a_name_tak
 statement-by t d p o k.Name ts m = go_if {b = p.in_block} (λ yes. pays (λ y deep g. skips (λ a us. go_look (λ e is. labelled-by t d p o a e ts us m y g)))) (λ no. expressed-by t d p o ts m)
 statement-by t d p o e ts m = statement-else t d p o e ts m
 
-pub statement-kept : (t : NameEnvironment) (d : ℕ) (p : Place) (o : ℕ) → Kept (a_statement t d p o)
+pub statement-kept : (t : NameEnvironment) (d : ℕ) (p : Context) (o : ℕ) → Kept (a_statement t d p o)
 statement-kept t d p o ts m = go_look (λ e is. statement-by t d p o e ts m)
 
-statements-by : (t : NameEnvironment) (d : ℕ) (p : Place) (e : Kind) (ts : Tokens) (m : Meter) → Safe (statements_by t d p e) (Stays (all_statements t d p) ts m) ts m
+statements-by : (t : NameEnvironment) (d : ℕ) (p : Context) (e : Kind) (ts : Tokens) (m : Meter) → Safe (statements_by t d p e) (Stays (all_statements t d p) ts m) ts m
 statements-by t d p k.CloseBrace ts m = skips (λ _ us. go_done (λ f. f))
 statements-by t d p _ ts m = go_strict (λ x us n q. go_call (λ xs vs o r. go_done (λ f. r (q f))))
 
-pub statements-kept : (t : NameEnvironment) (d : ℕ) (p : Place) → Kept (all_statements t d p)
+pub statements-kept : (t : NameEnvironment) (d : ℕ) (p : Context) → Kept (all_statements t d p)
 statements-kept t d p ts m = go_look (λ e is. statements-by t d p e ts m)

@@ -1,14 +1,18 @@
 -- What the rules of types and declarators keep.
-use Rattle.std.proofs.Common.{◌≡◌, ℕ, ◌+◌, ◌≤◌, Bool, true, false, List, [], ◌∷◌, ◌++◌, cond, refl}
+use Rattle.std.proofs.Common.{◌≡◌, ℕ, ◌+◌, ◌≤◌, Bool, true, false, List, [], ◌∷◌, ◌++◌, cond, refl, Option, Some, None}
 use Rattle.c_tree.specs.Tree.{Name, Quals, Stars, DeclaratorTree, Specifiers, no_specifiers, specifiers, Specifier, struct_tag, struct_of, enum_tag, enum_of}
-use Rattle.c_tree.specs.TypeWords.{TypeWord, of_whole, is_one_type, has_tag}
+use Rattle.c_tree.specs.TypeWords.{is_one_type, has_tag}
+use Rattle.c_tree.specs.declared.type_word.TypeWord.{TypeWord}
+use Rattle.c_tree.specs.declared.type_word.TypeWord.TheVariants as tw
 use Rattle.c_tree.specs.Marks.{Tokens}
 use Rattle.c_grammar.specs.declared.kind.Kind.{Kind}
 use Rattle.c_grammar.specs.declared.kind.Kind.TheVariants as k
 use Rattle.c_grammar.specs.Body.{done}
 use Rattle.c_grammar.specs.Body as body
 use Rattle.c_grammar.specs.Gauge.{Meter}
-use Rattle.c_grammar.specs.Rules.{NameEnvironment, Reads, inside, Start, no_specifier, a_qualifier, a_type_word, a_type_name, a_struct_word, an_enum_word, start_of, begins_type, ends_type, with_word, specifiers_by, struct_body_by, struct_by, more_members_by, more_declarators_by, enum_body_by, enum_by, enumerator_by, next_enumerator_by, more_enumerators_by, stars_by, quals_by, declared_by, pointed, declarator_by, size_by, sizes_by, one_size_by, at_most_one_by, parameters_by, more_parameters_by, parameter_name_by, parameter_pointer_by, parameter_by, bare_by, a_type, all_specifiers, a_struct, all_members, more_members, all_declarators, more_declarators, an_enum, all_enumerators, more_enumerators, all_stars, all_quals, a_declarator, all_sizes, at_most_one_size, all_parameters, some_parameters, more_parameters, a_parameter, a_bare}
+use Rattle.c_grammar.specs.Rules.{NameEnvironment, Reads, inside, start_of, begins_type, ends_type, with_word, specifiers_by, struct_body_by, struct_by, more_members_by, more_declarators_by, enum_body_by, enum_by, enumerator_by, next_enumerator_by, more_enumerators_by, stars_by, quals_by, declared_by, pointed, declarator_by, size_by, sizes_by, one_size_by, at_most_one_by, parameters_by, more_parameters_by, parameter_name_by, parameter_pointer_by, parameter_by, bare_by, a_type, all_specifiers, a_struct, all_members, more_members, all_declarators, more_declarators, an_enum, all_enumerators, more_enumerators, all_stars, all_quals, a_declarator, all_sizes, at_most_one_size, all_parameters, some_parameters, more_parameters, a_parameter, a_bare, qualifier_of, type_word}
+use Rattle.c_grammar.specs.declared.start.Start.{Start}
+use Rattle.c_grammar.specs.declared.start.Start.TheVariants as sp
 use Rattle.c_grammar.proofs.Conditions.{go_done, go_stop, go_look, go_call, go_scope, go_if}
 use Rattle.c_grammar.proofs.Limits.{Fits}
 use Rattle.c_parser.proofs.Staying.{Stays, Safe, Kept, fits-left, fits-entered, pays, pays_name, lifts, skips, wants, a_name_taken}
@@ -43,17 +47,17 @@ goes-on : (t : NameEnvironment) (d : ℕ) (b : Bool) (ws : List TypeWord) (w : T
     Safe (with_word ws w f) (Stays (all_specifiers t d b ws) ts m) ts m
 goes-on t d b ws w f ts m h = go_if {b = is_one_type (ws ++ w ∷ [])} (λ yes. h) (λ no. ends t d b ws ts m)
 
-specifiers-by : (t : NameEnvironment) (d : ℕ) (b : Bool) (ws : List TypeWord) (i : Start) (ts : Tokens) (m : Meter) → Safe (specifiers_by t d b ws i) (Stays (all_specifiers t d b ws) ts m) ts m
-specifiers-by t d b ws no_specifier ts m = ends t d b ws ts m
-specifiers-by t d b ws (a_qualifier x) ts m = skips (λ _ us. go_call (λ xs vs n p. go_done (p.0, λ e none tag. p.1 e none (untagged x xs tag))))
-specifiers-by t d b ws (a_type_word w x) ts m =
-    goes-on t d b ws w _ ts m (pays_name b d (λ y deep g. skips (λ _ us. go_call (λ xs vs n p. go_done (λ f. p.0 (g f), λ e none tag. deep e)))))
-specifiers-by t d b ws a_type_name ts m =
-    goes-on t d b ws of_whole _ ts m (pays_name b d (λ y deep g. skips (λ _ us. go_call (λ xs vs n p. go_done (λ f. p.0 (g f), λ e none tag. deep e)))))
-specifiers-by t d b ws a_struct_word ts m =
-    goes-on t d b ws of_whole _ ts m (skips (λ _ us. go_call (λ x vs n p. go_call (λ xs ws' o q. go_done (λ f. q.0 (p.0 f), λ e none tag. tag-alone d x xs p.1 tag)))))
-specifiers-by t d b ws an_enum_word ts m =
-    goes-on t d b ws of_whole _ ts m (skips (λ _ us. go_call (λ x vs n p. go_call (λ xs ws' o q. go_done (λ f. q.0 (p.0 f), λ e none tag. tag-alone d x xs p.1 tag)))))
+specifiers-by : (t : NameEnvironment) (d : ℕ) (b : Bool) (ws : List TypeWord) (i : Option Start) (ts : Tokens) (m : Meter) → Safe (specifiers_by t d b ws i) (Stays (all_specifiers t d b ws) ts m) ts m
+specifiers-by t d b ws None ts m = ends t d b ws ts m
+specifiers-by t d b ws (Some (sp.Qualifier x)) ts m = skips (λ _ us. go_call (λ xs vs n p. go_done (p.0, λ e none tag. p.1 e none (untagged (qualifier_of x) xs tag))))
+specifiers-by t d b ws (Some (sp.Keyword x)) ts m =
+    goes-on t d b ws (type_word x) _ ts m (pays_name b d (λ y deep g. skips (λ _ us. go_call (λ xs vs n p. go_done (λ f. p.0 (g f), λ e none tag. deep e)))))
+specifiers-by t d b ws (Some sp.TypeName) ts m =
+    goes-on t d b ws tw.Whole _ ts m (pays_name b d (λ y deep g. skips (λ _ us. go_call (λ xs vs n p. go_done (λ f. p.0 (g f), λ e none tag. deep e)))))
+specifiers-by t d b ws (Some sp.Struct) ts m =
+    goes-on t d b ws tw.Whole _ ts m (skips (λ _ us. go_call (λ x vs n p. go_call (λ xs ws' o q. go_done (λ f. q.0 (p.0 f), λ e none tag. tag-alone d x xs p.1 tag)))))
+specifiers-by t d b ws (Some sp.Enum) ts m =
+    goes-on t d b ws tw.Whole _ ts m (skips (λ _ us. go_call (λ x vs n p. go_call (λ xs ws' o q. go_done (λ f. q.0 (p.0 f), λ e none tag. tag-alone d x xs p.1 tag)))))
 
 pub specifiers-kept : (t : NameEnvironment) (d : ℕ) (b : Bool) (ws : List TypeWord) → Kept (all_specifiers t d b ws)
 specifiers-kept t d b ws ts m = go_look (λ e is. specifiers-by t d b ws (start_of e) ts m)

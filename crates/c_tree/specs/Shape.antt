@@ -106,57 +106,57 @@ IsBlock (block ss) = ⊤
 IsBlock _ = ⊥
 
 -- where a statement stands: in a loop, in a switch, directly in a block, directly in the block of a switch
-pub record Place : Type 0 where
+pub record Context : Type 0 where
   pub in_loop : Bool
   pub in_switch : Bool
   pub in_block : Bool
   pub in_cases : Bool
 
--- the place of a loop's body, of a branch, of a statement of a block, and of a statement of a switch's block
-abbrev pub of_loop : Place → Place
-of_loop p = record { in_loop = true; in_switch = p.in_switch; in_block = false; in_cases = false }
+-- the context of a loop's body, of a branch, of a statement of a block, and of a statement of a switch's block
+abbrev pub of_loop : Context → Context
+of_loop c = record { in_loop = true; in_switch = c.in_switch; in_block = false; in_cases = false }
 
-abbrev pub of_branch : Place → Place
-of_branch p = record { in_loop = p.in_loop; in_switch = p.in_switch; in_block = false; in_cases = false }
+abbrev pub of_branch : Context → Context
+of_branch c = record { in_loop = c.in_loop; in_switch = c.in_switch; in_block = false; in_cases = false }
 
-abbrev pub of_block : Place → Place
-of_block p = record { in_loop = p.in_loop; in_switch = p.in_switch; in_block = true; in_cases = false }
+abbrev pub of_block : Context → Context
+of_block c = record { in_loop = c.in_loop; in_switch = c.in_switch; in_block = true; in_cases = false }
 
-abbrev pub of_switch : Place → Place
-of_switch p = record { in_loop = p.in_loop; in_switch = true; in_block = true; in_cases = true }
+abbrev pub of_switch : Context → Context
+of_switch c = record { in_loop = c.in_loop; in_switch = true; in_block = true; in_cases = true }
 
 -- cases and default stand directly in the block of a switch, labels and declarations directly in a block, break in a loop
 -- or a switch, continue in a loop (C11 6.8.1p2, 6.8.2, 6.8.6.2, 6.8.6.3)
 abbrev mutual
-  pub ShapeStatement : List Name → StatementTree → Place → Type 0
-  ShapeStatement types (block ss) p = ShapeStatements types ss (of_block p)
-  ShapeStatement types (declaration d) p = IsTrue p.in_block × ShapeInner types d
-  ShapeStatement types (expression_statement x) p = ShapeOptional types x
-  ShapeStatement types (if_statement x s) p = ShapeExpression types x × ShapeStatement types s (of_branch p)
-  ShapeStatement types (if_else_statement x s r) p = IsFalse (ends_open s) × ShapeExpression types x × ShapeStatement types s (of_branch p) × ShapeStatement types r (of_branch p)
-  ShapeStatement types (while_statement x s) p = ShapeExpression types x × ShapeStatement types s (of_loop p)
-  ShapeStatement types (do_statement s x) p = ShapeStatement types s (of_loop p) × ShapeExpression types x
-  ShapeStatement types (for_statement a x y s) p = ShapeStart types a × ShapeOptional types x × ShapeOptional types y × ShapeStatement types s (of_loop p)
-  ShapeStatement types (switch_statement x s) p = ShapeExpression types x × ShapeSwitched types s p
-  ShapeStatement types (case_label x) p = IsTrue p.in_cases × (3 ≤ level x) × ShapeExpression types x
-  ShapeStatement types default_label p = IsTrue p.in_cases
-  ShapeStatement types (named_label n) p = IsTrue p.in_block × IsOrdinary types n
-  ShapeStatement types break_statement p = IsTrue (p.in_loop || p.in_switch)
-  ShapeStatement types continue_statement p = IsTrue p.in_loop
-  ShapeStatement types (return_statement x) p = ShapeOptional types x
-  ShapeStatement types (goto_statement n) p = IsOrdinary types n
+  pub ShapeStatement : List Name → StatementTree → Context → Type 0
+  ShapeStatement types (block ss) c = ShapeStatements types ss (of_block c)
+  ShapeStatement types (declaration d) c = IsTrue c.in_block × ShapeInner types d
+  ShapeStatement types (expression_statement x) c = ShapeOptional types x
+  ShapeStatement types (if_statement x s) c = ShapeExpression types x × ShapeStatement types s (of_branch c)
+  ShapeStatement types (if_else_statement x s r) c = IsFalse (ends_open s) × ShapeExpression types x × ShapeStatement types s (of_branch c) × ShapeStatement types r (of_branch c)
+  ShapeStatement types (while_statement x s) c = ShapeExpression types x × ShapeStatement types s (of_loop c)
+  ShapeStatement types (do_statement s x) c = ShapeStatement types s (of_loop c) × ShapeExpression types x
+  ShapeStatement types (for_statement a x y s) c = ShapeStart types a × ShapeOptional types x × ShapeOptional types y × ShapeStatement types s (of_loop c)
+  ShapeStatement types (switch_statement x s) c = ShapeExpression types x × ShapeSwitched types s c
+  ShapeStatement types (case_label x) c = IsTrue c.in_cases × (3 ≤ level x) × ShapeExpression types x
+  ShapeStatement types default_label c = IsTrue c.in_cases
+  ShapeStatement types (named_label n) c = IsTrue c.in_block × IsOrdinary types n
+  ShapeStatement types break_statement c = IsTrue (c.in_loop || c.in_switch)
+  ShapeStatement types continue_statement c = IsTrue c.in_loop
+  ShapeStatement types (return_statement x) c = ShapeOptional types x
+  ShapeStatement types (goto_statement n) c = IsOrdinary types n
 
   -- the body of a switch, a block
-  pub ShapeSwitched : List Name → StatementTree → Place → Type 0
-  ShapeSwitched types (block ss) p = ShapeStatements types ss (of_switch p)
-  ShapeSwitched types _ p = ⊥
+  pub ShapeSwitched : List Name → StatementTree → Context → Type 0
+  ShapeSwitched types (block ss) c = ShapeStatements types ss (of_switch c)
+  ShapeSwitched types _ c = ⊥
 
-  pub ShapeStatements : List Name → Statements → Place → Type 0
-  ShapeStatements types no_statements p = ⊤
-  ShapeStatements types (statements s ss) p = ShapeStatement types s p × ShapeStatements types ss p
+  pub ShapeStatements : List Name → Statements → Context → Type 0
+  ShapeStatements types no_statements c = ⊤
+  ShapeStatements types (statements s ss) c = ShapeStatement types s c × ShapeStatements types ss c
 
 -- outside every loop, switch and block
-abbrev pub outside : Place
+abbrev pub outside : Context
 outside = record { in_loop = false; in_switch = false; in_block = false; in_cases = false }
 
 abbrev pub ShapeFunction : List Name → FunctionTree → Type 0

@@ -1,6 +1,8 @@
 -- The words that name a type: which names are types, and which specifiers stand together (C11 6.7.2, 6.7.8).
 use Rattle.std.specs.Prelude.{◌+◌, ◌*◌, List, [], ◌∷◌, ◌++◌, length, count_by, Bool, true, false, ◌&&◌, nat_le, IsTrue, IsFalse, bytes_eq, codes}
 use Rattle.std.specs.List.{list_any, list_all}
+use Rattle.c_tree.specs.declared.type_word.TypeWord.{TypeWord}
+use Rattle.c_tree.specs.declared.type_word.TypeWord.TheVariants as tw
 use Rattle.c_tree.specs.Tree.{Name, Specifiers, no_specifiers, specifiers, Specifier, const_word, volatile_word, void_word, char_word, short_word, int_word, long_word, signed_word, unsigned_word, type_name, struct_tag, struct_of, enum_tag, enum_of}
 
 -- the names that are types in every program
@@ -25,59 +27,48 @@ IsTypeName types n = IsTrue (is_among types n)
 abbrev pub IsOrdinary : List Name → Name → Type 0
 IsOrdinary types n = IsFalse (is_among types n)
 
--- a word of specifiers that is no qualifier: one that names a whole type by itself is a type name, a struct or an enum
-pub data TypeWord : Type 0 where
-  of_void : TypeWord
-  of_char : TypeWord
-  of_short : TypeWord
-  of_int : TypeWord
-  of_long : TypeWord
-  of_signed : TypeWord
-  of_unsigned : TypeWord
-  of_whole : TypeWord
-
--- the words of specifiers without qualifiers, in order
+-- the words of specifiers without qualifiers, in order: a type's name, a struct and an enum name a whole type by themselves
 abbrev pub words_of : Specifier → List TypeWord
 words_of const_word = []
 words_of volatile_word = []
-words_of void_word = of_void ∷ []
-words_of char_word = of_char ∷ []
-words_of short_word = of_short ∷ []
-words_of int_word = of_int ∷ []
-words_of long_word = of_long ∷ []
-words_of signed_word = of_signed ∷ []
-words_of unsigned_word = of_unsigned ∷ []
-words_of (type_name n) = of_whole ∷ []
-words_of (struct_tag n) = of_whole ∷ []
-words_of (struct_of t ms) = of_whole ∷ []
-words_of (enum_tag n) = of_whole ∷ []
-words_of (enum_of t es c) = of_whole ∷ []
+words_of void_word = tw.Void ∷ []
+words_of char_word = tw.Char ∷ []
+words_of short_word = tw.Short ∷ []
+words_of int_word = tw.Int ∷ []
+words_of long_word = tw.Long ∷ []
+words_of signed_word = tw.Signed ∷ []
+words_of unsigned_word = tw.Unsigned ∷ []
+words_of (type_name n) = tw.Whole ∷ []
+words_of (struct_tag n) = tw.Whole ∷ []
+words_of (struct_of t ms) = tw.Whole ∷ []
+words_of (enum_tag n) = tw.Whole ∷ []
+words_of (enum_of t es c) = tw.Whole ∷ []
 
 abbrev pub type_words : Specifiers → List TypeWord
 type_words no_specifiers = []
 type_words (specifiers w ws) = words_of w ++ type_words ws
 
 abbrev pub is_integer_word : TypeWord → Bool
-is_integer_word of_void = false
-is_integer_word of_char = false
-is_integer_word of_whole = false
+is_integer_word tw.Void = false
+is_integer_word tw.Char = false
+is_integer_word tw.Whole = false
 is_integer_word _ = true
 
 abbrev pub is_short : TypeWord → Bool
-is_short of_short = true
+is_short tw.Short = true
 is_short _ = false
 
 abbrev pub is_int : TypeWord → Bool
-is_int of_int = true
+is_int tw.Int = true
 is_int _ = false
 
 abbrev pub is_long : TypeWord → Bool
-is_long of_long = true
+is_long tw.Long = true
 is_long _ = false
 
 abbrev pub is_sign : TypeWord → Bool
-is_sign of_signed = true
-is_sign of_unsigned = true
+is_sign tw.Signed = true
+is_sign tw.Unsigned = true
 is_sign _ = false
 
 -- an integer type, its words in any order: at most one sign, at most one int, and one short, or at most two long (C11 6.7.2p2)
@@ -88,11 +79,11 @@ is_integer_type ws =
 
 -- the words name one type
 abbrev pub is_one_type : List TypeWord → Bool
-is_one_type (of_void ∷ []) = true
-is_one_type (of_char ∷ []) = true
-is_one_type (of_signed ∷ of_char ∷ []) = true
-is_one_type (of_unsigned ∷ of_char ∷ []) = true
-is_one_type (of_whole ∷ []) = true
+is_one_type (tw.Void ∷ []) = true
+is_one_type (tw.Char ∷ []) = true
+is_one_type (tw.Signed ∷ tw.Char ∷ []) = true
+is_one_type (tw.Unsigned ∷ tw.Char ∷ []) = true
+is_one_type (tw.Whole ∷ []) = true
 is_one_type ws = is_integer_type ws
 
 -- the specifiers name one type

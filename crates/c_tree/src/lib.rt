@@ -15,6 +15,7 @@ mod node;
 mod program;
 mod search;
 mod tree;
+mod type_word;
 mod walk;
 mod walk_items;
 
@@ -29,3 +30,4 @@ pub use tree::{
     InitList, Item, Member, Named, ParamForm, Parameter, Params, Part, Qual, Quals, SpecWord,
     Specs, Stars, StepOp, Stmt, Storage, TypeName, UnaryOp,
 };
+pub use type_word::TypeWord;

@@ -11,8 +11,6 @@ mod clap_command;
 mod given;
 mod job;
 mod table;
-#[cfg(test)]
-mod tests;
 mod values;
 mod words;
 

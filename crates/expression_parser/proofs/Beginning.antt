@@ -7,7 +7,9 @@ use Rattle.c_grammar.specs.Gauge.{Meter, within, added}
 use Rattle.c_grammar.specs.Kind.{kind, head_text}
 use Rattle.c_grammar.specs.Input.{Input, next, metered}
 use Rattle.c_grammar.specs.Reading.{read}
-use Rattle.c_grammar.specs.Rules.{NameEnvironment, a_prefix, an_expression, more_texts, prefix_by, first_of_operand, First, no_operand, a_word, a_number, a_character, a_text, an_open, a_sizeof, a_step, a_unary}
+use Rattle.c_grammar.specs.Rules.{NameEnvironment, a_prefix, an_expression, more_texts, prefix_by, first_of_operand}
+use Rattle.c_grammar.specs.declared.infix.First.{First}
+use Rattle.c_grammar.specs.declared.infix.First.TheVariants as fi
 use Rattle.expression_parser.specs.Beginning.{begun}
 use Rattle.c_grammar.specs.Lists.{mapped}
 use Rattle.c_grammar.specs.Performing.{perform}
@@ -23,18 +25,18 @@ tail_twice g h (got v us m) = refl
 tail_twice g h (refused us) = refl
 tail_twice g h (exceeded us) = refl
 
-begins : (t : NameEnvironment) (d least owed : ℕ) (f : First) (i : Input) → perform (prefix_by t d least owed f) i ≡ begun t d least owed f i
-begins t d least owed no_operand i = refl
-begins t d least owed a_word i = paid_mapped (λ n. name n) (within (added owed (d + 1) i.meter)) i.rest _ _ (λ m. refl)
-begins t d least owed a_number i = paid_mapped (λ n. integer n) (within (added owed (d + 1) i.meter)) i.rest _ _ (λ m. refl)
-begins t d least owed a_character i = paid_mapped (λ n. character n) (within (added owed (d + 1) i.meter)) i.rest _ _ (λ m. refl)
-begins t d least owed a_text i =
+begins : (t : NameEnvironment) (d least owed : ℕ) (f : Option First) (i : Input) → perform (prefix_by t d least owed f) i ≡ begun t d least owed f i
+begins t d least owed None i = refl
+begins t d least owed (Some fi.Word) i = paid_mapped (λ n. name n) (within (added owed (d + 1) i.meter)) i.rest _ _ (λ m. refl)
+begins t d least owed (Some fi.Number) i = paid_mapped (λ n. integer n) (within (added owed (d + 1) i.meter)) i.rest _ _ (λ m. refl)
+begins t d least owed (Some fi.Character) i = paid_mapped (λ n. character n) (within (added owed (d + 1) i.meter)) i.rest _ _ (λ m. refl)
+begins t d least owed (Some fi.Text) i =
     paid_mapped (λ ns. text ns) (within (added owed (d + 1) i.meter)) i.rest _ _ (λ m. tail_twice (λ ns. text ns) (λ ns. head_text i.rest ∷ ns) (read more_texts (next (metered m i))))
-begins t d least owed an_open i = refl
-begins t d least owed a_sizeof i = refl
-begins t d least owed (a_step o) i =
+begins t d least owed (Some fi.Open) i = refl
+begins t d least owed (Some fi.Sizeof) i = refl
+begins t d least owed (Some (fi.Step o)) i =
     paid_mapped (before o) (within (added (owed + 1) (d + 2) i.meter)) i.rest _ _ (λ m. tail_twice (before o) (λ x. x) (read (an_expression t (d + 1) 15 0) (next (metered m i))))
-begins t d least owed (a_unary o) i =
+begins t d least owed (Some (fi.Unary o)) i =
     paid_mapped (unary o) (within (added (owed + 1) (d + 2) i.meter)) i.rest _ _ (λ m. tail_twice (unary o) (λ x. x) (read (an_expression t (d + 1) 14 0) (next (metered m i))))
 
 pub prefix_begins : (t : NameEnvironment) (d least owed : ℕ) (i : Input) → read (a_prefix t d least owed) i ≡ begun t d least owed (first_of_operand (kind t.types i.rest)) i

@@ -1,12 +1,14 @@
 -- What the first operand is read as, by what it begins with.
-use Rattle.std.specs.Prelude.{ℕ, ◌+◌, List, ◌∷◌}
+use Rattle.std.specs.Prelude.{ℕ, ◌+◌, List, ◌∷◌, Option, Some, None}
 use Rattle.c_tree.specs.Tree.{Name, Expression, name, integer, character, text, before, unary, cast, paren, size_of_type}
 use Rattle.c_grammar.specs.declared.kind.Kind.TheVariants as k
 use Rattle.c_grammar.specs.Body.{done, look, take, spend, Outcome, refused}
 use Rattle.c_grammar.specs.Body as body
 use Rattle.c_grammar.specs.Gauge.{Meter}
 use Rattle.c_grammar.specs.Input.{Input}
-use Rattle.c_grammar.specs.Rules.{NameEnvironment, Reads, skip, expect, an_expression, a_type, more_texts, opened_by, sizeof_by, First, no_operand, a_word, a_number, a_character, a_text, an_open, a_sizeof, a_step, a_unary}
+use Rattle.c_grammar.specs.Rules.{NameEnvironment, Reads, skip, expect, an_expression, a_type, more_texts, opened_by, sizeof_by}
+use Rattle.c_grammar.specs.declared.infix.First.{First}
+use Rattle.c_grammar.specs.declared.infix.First.TheVariants as fi
 use Rattle.c_grammar.specs.Lists.{mapped}
 use Rattle.c_grammar.specs.Performing.{perform}
 
@@ -42,13 +44,13 @@ type_sized t d = body.call (a_type t (d + 1)) (λ y. expect k.CloseParen (done (
 abbrev pub size_of : NameEnvironment → ℕ → ℕ → Reads Expression
 size_of t d owed = spend owed (d + 1) (skip (look t.types (sizeof_by t d)))
 
-abbrev pub begun : NameEnvironment → ℕ → ℕ → ℕ → First → Input → Outcome Meter Expression
-begun t d least owed no_operand i = refused i.rest
-begun t d least owed a_word i = mapped (λ n. name n) (perform (leaf d owed) i)
-begun t d least owed a_number i = mapped (λ n. integer n) (perform (leaf d owed) i)
-begun t d least owed a_character i = mapped (λ n. character n) (perform (leaf d owed) i)
-begun t d least owed a_text i = mapped (λ ns. text ns) (perform (words d owed) i)
-begun t d least owed an_open i = perform (bracketed t d owed least) i
-begun t d least owed a_sizeof i = perform (size_of t d owed) i
-begun t d least owed (a_step o) i = mapped (before o) (perform (operand t d owed 15) i)
-begun t d least owed (a_unary o) i = mapped (unary o) (perform (operand t d owed 14) i)
+abbrev pub begun : NameEnvironment → ℕ → ℕ → ℕ → Option First → Input → Outcome Meter Expression
+begun t d least owed None i = refused i.rest
+begun t d least owed (Some fi.Word) i = mapped (λ n. name n) (perform (leaf d owed) i)
+begun t d least owed (Some fi.Number) i = mapped (λ n. integer n) (perform (leaf d owed) i)
+begun t d least owed (Some fi.Character) i = mapped (λ n. character n) (perform (leaf d owed) i)
+begun t d least owed (Some fi.Text) i = mapped (λ ns. text ns) (perform (words d owed) i)
+begun t d least owed (Some fi.Open) i = perform (bracketed t d owed least) i
+begun t d least owed (Some fi.Sizeof) i = perform (size_of t d owed) i
+begun t d least owed (Some (fi.Step o)) i = mapped (before o) (perform (operand t d owed 15) i)
+begun t d least owed (Some (fi.Unary o)) i = mapped (unary o) (perform (operand t d owed 14) i)

@@ -3,11 +3,13 @@ use Rattle.std.specs.Prelude.{ℕ, suc, ◌+◌}
 use Rattle.c_tree.specs.ExpressionShape.{op_level}
 use Rattle.c_tree.specs.Tree.{Name, Expression, Expressions, comma, assign, choose, binary, index, call, dot, arrow, after}
 use Rattle.c_grammar.specs.declared.kind.Kind.TheVariants as k
-use Rattle.c_grammar.specs.Body.{done, spend, rise, Outcome, got}
+use Rattle.c_grammar.specs.Body.{done, spend, rise, Outcome}
 use Rattle.c_grammar.specs.Body as body
 use Rattle.c_grammar.specs.Gauge.{Meter}
 use Rattle.c_grammar.specs.Input.{Input}
-use Rattle.c_grammar.specs.Rules.{NameEnvironment, Reads, skip, expect, a_name, an_expression, all_arguments, Infix, no_infix, a_comma, an_assign, a_question, an_operator, an_index, a_call, a_dot, an_arrow, a_step_behind}
+use Rattle.c_grammar.specs.Rules.{NameEnvironment, Reads, skip, expect, a_name, an_expression, all_arguments}
+use Rattle.c_grammar.specs.declared.infix.Infix.{Infix}
+use Rattle.c_grammar.specs.declared.infix.Infix.TheVariants as ix
 use Rattle.c_grammar.specs.Lists.{mapped}
 use Rattle.c_grammar.specs.Performing.{perform}
 
@@ -32,16 +34,15 @@ abbrev pub stepped : ℕ → Reads (Unit {0})
 stepped d = rise (spend 1 (d + 1) (skip (done tt)))
 
 abbrev pub extended : NameEnvironment → ℕ → Expression → Infix → Input → Outcome Meter Expression
-extended t d x no_infix i = got x i.rest i.meter
-extended t d x a_comma i = mapped (comma x) (perform (right_operand t d 2) i)
-extended t d x (an_assign o) i = mapped (assign o x) (perform (right_operand t d 2) i)
-extended t d x a_question i = mapped (λ p. choose x p.0 p.1) (perform (choices t d) i)
-extended t d x (an_operator o) i = mapped (binary o x) (perform (right_operand t d (suc (op_level o))) i)
-extended t d x an_index i = mapped (index x) (perform (subscript t d) i)
-extended t d x a_call i = mapped (call x) (perform (arguments t d) i)
-extended t d x a_dot i = mapped (dot x) (perform (member_name t d) i)
-extended t d x an_arrow i = mapped (arrow x) (perform (member_name t d) i)
-extended t d x (a_step_behind o) i = mapped (λ u. after o x) (perform (stepped d) i)
+extended t d x ix.Comma i = mapped (comma x) (perform (right_operand t d 2) i)
+extended t d x (ix.Assign o) i = mapped (assign o x) (perform (right_operand t d 2) i)
+extended t d x ix.Question i = mapped (λ p. choose x p.0 p.1) (perform (choices t d) i)
+extended t d x (ix.Operator o) i = mapped (binary o x) (perform (right_operand t d (suc (op_level o))) i)
+extended t d x ix.Index i = mapped (index x) (perform (subscript t d) i)
+extended t d x ix.Call i = mapped (call x) (perform (arguments t d) i)
+extended t d x ix.Dot i = mapped (dot x) (perform (member_name t d) i)
+extended t d x ix.Arrow i = mapped (arrow x) (perform (member_name t d) i)
+extended t d x (ix.Step o) i = mapped (λ u. after o x) (perform (stepped d) i)
 
 -- one more argument, behind a comma
 abbrev pub another : NameEnvironment → ℕ → Reads Expression

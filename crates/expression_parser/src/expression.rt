@@ -1,7 +1,8 @@
 //! Expressions: an operand, and how it goes on with operators.
 
-ghost use Rattle.std.specs.Prelude.{◌≡◌, ◌≤◌, ◌∷◌, Some, map};
-ghost use Rattle.c_tree.specs.Tree.{expressions, choose, index, call, dot, arrow, after};
+ghost use Rattle.std.specs.Prelude.{◌≡◌, ◌≤◌, ◌∷◌, suc, map};
+ghost use Rattle.c_tree.specs.ExpressionShape as shape;
+ghost use Rattle.c_tree.specs.Tree.{expressions, comma, assign, choose, binary, unary, before, index, call, dot, arrow, after, name, integer, character, text};
 ghost use Rattle.c_tree.specs.View.{view_expression, expressions_of};
 ghost use Rattle.c_grammar.specs.Body.{look};
 ghost use Rattle.c_grammar.specs.Reading.{read};
@@ -9,17 +10,16 @@ ghost use Rattle.c_grammar.specs.Rules.{an_expression, a_whole, a_prefix, a_rest
 ghost use Rattle.expression_parser.specs.Beginning.{leaf, words, operand, turned, closed, bracketed, type_sized, size_of};
 ghost use Rattle.expression_parser.specs.Extending.{extended, right_operand, choices, subscript, arguments, another, member_name, stepped};
 ghost use Rattle.c_grammar.specs.Gives.{Gives};
-ghost use Rattle.expression_parser.specs.Infixes.{view_infix};
 ghost use Rattle.c_grammar.specs.Lists.{mapped};
 ghost use Rattle.expression_parser.specs.Nests.{Nests};
 ghost use Rattle.c_grammar.specs.Performing.{perform};
 
 use crate::grammar::{Found, Grammar, Nested};
-use crate::infix::{First, Infix, begins_type, first_of_operand, infix_behind, level, op_level};
+use crate::infix::{begins_type, first_of_operand, infix_behind, level, op_level};
 use base_core::Lexeme;
 use c_grammar::steps::{expect, kind, name, refused, rise, spend, word};
-use c_grammar::{Cursor, Kind, NameEnvironment, Refusal, same_kind};
-use c_tree::{Expr, StepOp};
+use c_grammar::{Cursor, First, Infix, Kind, NameEnvironment, Refusal, same_kind};
+use c_tree::{AssignOp, BinaryOp, Expr, StepOp, UnaryOp};
 use sqlite_items::{Boxed, Items};
 use std::alloc::Global;
 
@@ -88,6 +88,25 @@ impl<
     }
 
     /// Both choices behind a condition.
+    fn choices(
+        &self,
+        cursor: &mut Cursor<'_>,
+        d: u32,
+    ) -> Result<(Boxed<Expr>, Boxed<Expr>), Refusal>
+        requires nests { Nests self.now.budget (F.pre self.now.read) (F.post self.now.read) }
+        requires small { d ≤ 1001 }
+        ensures { Gives (λ p. (view_expression p.0, view_expression p.1)) (perform (choices self.now.types.now d) cursor.old) result cursor.new }
+    {
+        rise(cursor)?;
+        spend(cursor, 3, d + 2)?;
+        cursor.take();
+        let first = self.expression(cursor, d + 1, 1, 0)?;
+        expect(cursor, Kind::Colon)?;
+        let other = self.expression(cursor, d + 1, 3, 0)?;
+        Ok((first, other))
+    }
+
+    /// A condition and its choices.
     #[tactic(auto, using(c_tree::proofs::ViewLemmas::view_Expr_Choose))]
     fn chosen(
         &self,
@@ -99,16 +118,25 @@ impl<
         requires small { d ≤ 1001 }
         ensures { Gives view_expression (mapped (λ p. choose (view_expression test) p.0 p.1) (perform (choices self.now.types.now d) cursor.old)) result cursor.new }
     {
-        rise(cursor)?;
-        spend(cursor, 3, d + 2)?;
-        cursor.take();
-        let first = self.expression(cursor, d + 1, 1, 0)?;
-        expect(cursor, Kind::Colon)?;
-        let other = self.expression(cursor, d + 1, 3, 0)?;
+        let (first, other) = self.choices(cursor, d)?;
         Ok(Boxed::new(self.alloc, Expr::Choose(test, first, other))?)
     }
 
     /// A subscript in its brackets.
+    fn subscript(&self, cursor: &mut Cursor<'_>, d: u32) -> Result<Boxed<Expr>, Refusal>
+        requires nests { Nests self.now.budget (F.pre self.now.read) (F.post self.now.read) }
+        requires small { d ≤ 1001 }
+        ensures { Gives view_expression (perform (subscript self.now.types.now d) cursor.old) result cursor.new }
+    {
+        rise(cursor)?;
+        spend(cursor, 2, d + 2)?;
+        cursor.take();
+        let found = self.expression(cursor, d + 1, 1, 0)?;
+        expect(cursor, Kind::CloseBracket)?;
+        Ok(found)
+    }
+
+    /// An array and its subscript.
     #[tactic(auto, using(c_tree::proofs::ViewLemmas::view_Expr_Index))]
     fn indexed(
         &self,
@@ -120,11 +148,7 @@ impl<
         requires small { d ≤ 1001 }
         ensures { Gives view_expression (mapped (index (view_expression array)) (perform (subscript self.now.types.now d) cursor.old)) result cursor.new }
     {
-        rise(cursor)?;
-        spend(cursor, 2, d + 2)?;
-        cursor.take();
-        let found = self.expression(cursor, d + 1, 1, 0)?;
-        expect(cursor, Kind::CloseBracket)?;
+        let found = self.subscript(cursor, d)?;
         Ok(Boxed::new(self.alloc, Expr::Index(array, found))?)
     }
 
@@ -261,8 +285,57 @@ impl<
         Ok(Boxed::new(self.alloc, Expr::After(op, value))?)
     }
 
+    /// A comma and its right operand.
+    #[tactic(auto, using(c_tree::proofs::ViewLemmas::view_Expr_Comma))]
+    fn followed(
+        &self,
+        cursor: &mut Cursor<'_>,
+        d: u32,
+        left: Boxed<Expr>,
+    ) -> Result<Boxed<Expr>, Refusal>
+        requires nests { Nests self.now.budget (F.pre self.now.read) (F.post self.now.read) }
+        requires small { d ≤ 1001 }
+        ensures { Gives view_expression (mapped (comma (view_expression left)) (perform (right_operand self.now.types.now d 2) cursor.old)) result cursor.new }
+    {
+        let right = self.right_operand(cursor, d, 2)?;
+        Ok(Boxed::new(self.alloc, Expr::Comma(left, right))?)
+    }
+
+    /// An assignment and its right operand.
+    #[tactic(auto, using(c_tree::proofs::ViewLemmas::view_Expr_Assign))]
+    fn assigned(
+        &self,
+        cursor: &mut Cursor<'_>,
+        d: u32,
+        op: AssignOp,
+        left: Boxed<Expr>,
+    ) -> Result<Boxed<Expr>, Refusal>
+        requires nests { Nests self.now.budget (F.pre self.now.read) (F.post self.now.read) }
+        requires small { d ≤ 1001 }
+        ensures { Gives view_expression (mapped (assign op (view_expression left)) (perform (right_operand self.now.types.now d 2) cursor.old)) result cursor.new }
+    {
+        let right = self.right_operand(cursor, d, 2)?;
+        Ok(Boxed::new(self.alloc, Expr::Assign(op, left, right))?)
+    }
+
+    /// An operator of two operands and the right one.
+    #[tactic(auto, using(c_tree::proofs::ViewLemmas::view_Expr_Binary))]
+    fn operated(
+        &self,
+        cursor: &mut Cursor<'_>,
+        d: u32,
+        op: BinaryOp,
+        left: Boxed<Expr>,
+    ) -> Result<Boxed<Expr>, Refusal>
+        requires nests { Nests self.now.budget (F.pre self.now.read) (F.post self.now.read) }
+        requires small { d ≤ 1001 }
+        ensures { Gives view_expression (mapped (binary op (view_expression left)) (perform (right_operand self.now.types.now d (suc (shape.op_level op))) cursor.old)) result cursor.new }
+    {
+        let right = self.right_operand(cursor, d, op_level(op) + 1)?;
+        Ok(Boxed::new(self.alloc, Expr::Binary(op, left, right))?)
+    }
+
     /// What an operator makes of the expression before it.
-    #[tactic(auto, using(c_tree::proofs::ViewLemmas::view_Expr_Comma, c_tree::proofs::ViewLemmas::view_Expr_Assign, c_tree::proofs::ViewLemmas::view_Expr_Binary))]
     fn extended(
         &self,
         cursor: &mut Cursor<'_>,
@@ -272,22 +345,19 @@ impl<
     ) -> Result<Boxed<Expr>, Refusal>
         requires nests { Nests self.now.budget (F.pre self.now.read) (F.post self.now.read) }
         requires small { d ≤ 1001 }
-        ensures { Gives view_expression (extended self.now.types.now d (view_expression left) (view_infix (Some sign)) cursor.old) result cursor.new }
+        ensures { Gives view_expression (extended self.now.types.now d (view_expression left) sign cursor.old) result cursor.new }
     {
-        let found = match sign {
-            Infix::Comma => Expr::Comma(left, self.right_operand(cursor, d, 2)?),
-            Infix::Assign(op) => Expr::Assign(op, left, self.right_operand(cursor, d, 2)?),
-            Infix::Operator(op) => {
-                Expr::Binary(op, left, self.right_operand(cursor, d, op_level(op) + 1)?)
-            }
-            Infix::Question => return self.chosen(cursor, d, left),
-            Infix::Index => return self.indexed(cursor, d, left),
-            Infix::Call => return self.called(cursor, d, left),
-            Infix::Dot => return self.dotted(cursor, d, left),
-            Infix::Arrow => return self.pointed(cursor, d, left),
-            Infix::Step(op) => return self.stepped(cursor, d, op, left),
-        };
-        Ok(Boxed::new(self.alloc, found)?)
+        match sign {
+            Infix::Comma => self.followed(cursor, d, left),
+            Infix::Assign(op) => self.assigned(cursor, d, op, left),
+            Infix::Question => self.chosen(cursor, d, left),
+            Infix::Operator(op) => self.operated(cursor, d, op, left),
+            Infix::Index => self.indexed(cursor, d, left),
+            Infix::Call => self.called(cursor, d, left),
+            Infix::Dot => self.dotted(cursor, d, left),
+            Infix::Arrow => self.pointed(cursor, d, left),
+            Infix::Step(op) => self.stepped(cursor, d, op, left),
+        }
     }
 
     /// How an expression goes on behind what was read of it.
@@ -437,8 +507,93 @@ impl<
         self.expression(cursor, d + 1, least, 0)
     }
 
+    /// A name.
+    #[tactic(auto, using(c_tree::proofs::ViewLemmas::view_Expr_Name))]
+    fn a_name(&self, cursor: &mut Cursor<'_>, d: u32, owed: u32) -> Result<Boxed<Expr>, Refusal>
+        requires nests { Nests self.now.budget (F.pre self.now.read) (F.post self.now.read) }
+        requires small { d ≤ 1001 }
+        ensures { Gives view_expression (mapped (λ n. name n) (perform (leaf d owed) cursor.old)) result cursor.new }
+    {
+        let found = leaf(self.alloc, cursor, d, owed)?;
+        Ok(Boxed::new(self.alloc, Expr::Name(found))?)
+    }
+
+    /// An integer constant.
+    #[tactic(auto, using(c_tree::proofs::ViewLemmas::view_Expr_Integer))]
+    fn an_integer(&self, cursor: &mut Cursor<'_>, d: u32, owed: u32) -> Result<Boxed<Expr>, Refusal>
+        requires nests { Nests self.now.budget (F.pre self.now.read) (F.post self.now.read) }
+        requires small { d ≤ 1001 }
+        ensures { Gives view_expression (mapped (λ n. integer n) (perform (leaf d owed) cursor.old)) result cursor.new }
+    {
+        let found = leaf(self.alloc, cursor, d, owed)?;
+        Ok(Boxed::new(self.alloc, Expr::Integer(found))?)
+    }
+
+    /// A character constant.
+    #[tactic(auto, using(c_tree::proofs::ViewLemmas::view_Expr_Character))]
+    fn a_character(
+        &self,
+        cursor: &mut Cursor<'_>,
+        d: u32,
+        owed: u32,
+    ) -> Result<Boxed<Expr>, Refusal>
+        requires nests { Nests self.now.budget (F.pre self.now.read) (F.post self.now.read) }
+        requires small { d ≤ 1001 }
+        ensures { Gives view_expression (mapped (λ n. character n) (perform (leaf d owed) cursor.old)) result cursor.new }
+    {
+        let found = leaf(self.alloc, cursor, d, owed)?;
+        Ok(Boxed::new(self.alloc, Expr::Character(found))?)
+    }
+
+    /// Texts that follow one another.
+    #[tactic(auto, using(c_tree::proofs::ViewLemmas::view_Expr_Text))]
+    fn a_text(&self, cursor: &mut Cursor<'_>, d: u32, owed: u32) -> Result<Boxed<Expr>, Refusal>
+        requires nests { Nests self.now.budget (F.pre self.now.read) (F.post self.now.read) }
+        requires small { d ≤ 1001 }
+        ensures { Gives view_expression (mapped (λ ns. text ns) (perform (words d owed) cursor.old)) result cursor.new }
+    {
+        let found = words(self.alloc, cursor, d, owed)?;
+        Ok(Boxed::new(self.alloc, Expr::Text(found))?)
+    }
+
+    /// `++` or `--` before its operand.
+    #[tactic(auto, using(c_tree::proofs::ViewLemmas::view_Expr_Before))]
+    fn step_before(
+        &self,
+        cursor: &mut Cursor<'_>,
+        d: u32,
+        owed: u32,
+        op: StepOp,
+    ) -> Result<Boxed<Expr>, Refusal>
+        requires nests { Nests self.now.budget (F.pre self.now.read) (F.post self.now.read) }
+        requires small { d ≤ 1001 }
+        requires few { owed ≤ 1000 }
+        ensures { Gives view_expression (mapped (before op) (perform (operand self.now.types.now d owed 15) cursor.old)) result cursor.new }
+    {
+        let found = self.operand(cursor, d, owed, 15)?;
+        Ok(Boxed::new(self.alloc, Expr::Before(op, found))?)
+    }
+
+    /// A unary operator before its operand.
+    #[tactic(auto, using(c_tree::proofs::ViewLemmas::view_Expr_Unary))]
+    fn unary(
+        &self,
+        cursor: &mut Cursor<'_>,
+        d: u32,
+        owed: u32,
+        op: UnaryOp,
+    ) -> Result<Boxed<Expr>, Refusal>
+        requires nests { Nests self.now.budget (F.pre self.now.read) (F.post self.now.read) }
+        requires small { d ≤ 1001 }
+        requires few { owed ≤ 1000 }
+        ensures { Gives view_expression (mapped (unary op) (perform (operand self.now.types.now d owed 14) cursor.old)) result cursor.new }
+    {
+        let found = self.operand(cursor, d, owed, 14)?;
+        Ok(Boxed::new(self.alloc, Expr::Unary(op, found))?)
+    }
+
     /// The first operand.
-    #[tactic(auto, using(crate::proofs::Beginning::prefix_begins, c_tree::proofs::ViewLemmas::view_Expr_Name, c_tree::proofs::ViewLemmas::view_Expr_Integer, c_tree::proofs::ViewLemmas::view_Expr_Character, c_tree::proofs::ViewLemmas::view_Expr_Text, c_tree::proofs::ViewLemmas::view_Expr_Before, c_tree::proofs::ViewLemmas::view_Expr_Unary))]
+    #[tactic(auto, using(crate::proofs::Beginning::prefix_begins))]
     fn prefix(
         &self,
         cursor: &mut Cursor<'_>,
@@ -454,17 +609,16 @@ impl<
         let Some(first) = first_of_operand(kind(self.types, cursor)) else {
             return Err(refused(cursor));
         };
-        let found = match first {
-            First::Word => Expr::Name(leaf(self.alloc, cursor, d, owed)?),
-            First::Number => Expr::Integer(leaf(self.alloc, cursor, d, owed)?),
-            First::Character => Expr::Character(leaf(self.alloc, cursor, d, owed)?),
-            First::Text => Expr::Text(words(self.alloc, cursor, d, owed)?),
-            First::Open => return self.bracketed(cursor, d, owed, least),
-            First::Sizeof => return self.size_of(cursor, d, owed),
-            First::Step(op) => Expr::Before(op, self.operand(cursor, d, owed, 15)?),
-            First::Unary(op) => Expr::Unary(op, self.operand(cursor, d, owed, 14)?),
-        };
-        Ok(Boxed::new(self.alloc, found)?)
+        match first {
+            First::Word => self.a_name(cursor, d, owed),
+            First::Number => self.an_integer(cursor, d, owed),
+            First::Character => self.a_character(cursor, d, owed),
+            First::Text => self.a_text(cursor, d, owed),
+            First::Open => self.bracketed(cursor, d, owed, least),
+            First::Sizeof => self.size_of(cursor, d, owed),
+            First::Step(op) => self.step_before(cursor, d, owed, op),
+            First::Unary(op) => self.unary(cursor, d, owed, op),
+        }
     }
 
     /// An operand and what is behind it.

@@ -4,41 +4,16 @@ ghost use Rattle.std.specs.Prelude.{◌≡◌, ◌≤◌, Some};
 ghost use Rattle.c_tree.specs.ExpressionShape as shape;
 ghost use Rattle.c_tree.specs.View.{view_expression};
 ghost use Rattle.c_grammar.specs.Rules as rules;
-ghost use Rattle.expression_parser.specs.Infixes.{view_first, view_infix, goes_on_with};
+ghost use Rattle.expression_parser.specs.Infixes.{goes_on_with};
 
-use c_grammar::{Kind, assignment_operator, binary_operator, step_operator, unary_operator};
-use c_tree::{AssignOp, BinaryOp, Expr, StepOp, UnaryOp};
-
-/// What an operand begins with.
-#[derive(Clone, Copy)]
-pub enum First {
-    Word,
-    Number,
-    Character,
-    Text,
-    Open,
-    Sizeof,
-    Step(StepOp),
-    Unary(UnaryOp),
-}
-
-/// What an expression goes on with.
-#[derive(Clone, Copy)]
-pub enum Infix {
-    Comma,
-    Assign(AssignOp),
-    Question,
-    Operator(BinaryOp),
-    Index,
-    Call,
-    Dot,
-    Arrow,
-    Step(StepOp),
-}
+use c_grammar::{
+    First, Infix, Kind, assignment_operator, binary_operator, step_operator, unary_operator,
+};
+use c_tree::{BinaryOp, Expr, StepOp};
 
 /// What an operand begins with whose first token is of this kind.
 pub fn first_of_operand(kind: Kind) -> Option<First>
-    ensures { rules.first_of_operand kind ≡ view_first result }
+    ensures { result ≡ rules.first_of_operand kind }
 {
     match kind {
         Kind::Name => Some(First::Word),
@@ -96,7 +71,7 @@ pub fn level(expr: &Expr) -> u8
 
 /// What an expression goes on with behind which a token of this kind stands.
 fn infix_of(kind: Kind) -> Option<Infix>
-    ensures { rules.infix_of kind ≡ view_infix result }
+    ensures { result ≡ rules.infix_of kind }
 {
     match kind {
         Kind::Comma => Some(Infix::Comma),
@@ -116,7 +91,7 @@ fn infix_of(kind: Kind) -> Option<Infix>
 
 /// The level of the expression that it makes.
 fn own_level(sign: Infix) -> u8
-    ensures { result ≡ rules.own_level (view_infix (Some sign)) }
+    ensures { result ≡ rules.own_level (Some sign) }
 {
     match sign {
         Infix::Comma => 1,
@@ -129,7 +104,7 @@ fn own_level(sign: Infix) -> u8
 
 /// The least level of the operand before it.
 fn left_level(sign: Infix) -> u8
-    ensures { result ≡ rules.left_level (view_infix (Some sign)) }
+    ensures { result ≡ rules.left_level (Some sign) }
 {
     match sign {
         Infix::Comma => 1,
@@ -142,7 +117,7 @@ fn left_level(sign: Infix) -> u8
 
 /// What an expression of at least one level goes on with, behind one of another level and before a token of this kind.
 pub fn infix_behind(least: u8, kind: Kind, level: u8) -> Option<Infix>
-    ensures { goes_on_with least (rules.infix_of kind) level ≡ view_infix result }
+    ensures { result ≡ goes_on_with least (rules.infix_of kind) level }
 {
     let sign = infix_of(kind)?;
     if least <= own_level(sign) && left_level(sign) <= level {

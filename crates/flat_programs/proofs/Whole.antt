@@ -9,7 +9,7 @@ use Rattle.std.proofs.lemmas.Bool.{and_parts}
 use Rattle.base_core.specs.Signal.{signal_names}
 use Rattle.c_tree.specs.Tree.{Name}
 use Rattle.c_tree.specs.TypeWords.{built_in_types, is_among, IsOrdinary}
-use Rattle.c_tree.specs.Shape.{ShapeItems, ShapeStatements, ShapeStatement, Place, of_block, outside}
+use Rattle.c_tree.specs.Shape.{ShapeItems, ShapeStatements, ShapeStatement, Context, of_block, outside}
 use Rattle.c_tree.specs.Spelling as whole
 use Rattle.flat_programs.specs.declared.flat.LibraryFunction.{LibraryFunction}
 use Rattle.flat_programs.specs.declared.flat.LibraryFunction.TheVariants.{Abort, Getpid, Pause, Rand}
@@ -107,16 +107,16 @@ main_ordinary = refl
 
 -- ---- shape
 
-statement_shaped : (s : Statement) (p : Place) → ShapeStatement built_in_types (statement_of s) p
+statement_shaped : (s : Statement) (p : Context) → ShapeStatement built_in_types (statement_of s) p
 statement_shaped (Call f) p = (omega arith, function_ordinary f, tt)
 statement_shaped (Install signal handler) p =
     (omega arith, call_ordinary, (omega arith, signal_ordinary signal, (omega arith, letter_ordinary handler, tt)))
 
-calls_shaped : (fs : List LibraryFunction) (p : Place) → ShapeStatements built_in_types (calls_of fs) p
+calls_shaped : (fs : List LibraryFunction) (p : Context) → ShapeStatements built_in_types (calls_of fs) p
 calls_shaped [] p = tt
 calls_shaped (f ∷ fs) p = (statement_shaped (Call f) p, calls_shaped fs p)
 
-body_shaped : (ss : List Statement) (p : Place) → ShapeStatements built_in_types (body_of ss) p
+body_shaped : (ss : List Statement) (p : Context) → ShapeStatements built_in_types (body_of ss) p
 body_shaped [] p = (tt, tt)
 body_shaped (s ∷ ss) p = (statement_shaped s p, body_shaped ss p)
 

@@ -1,10 +1,14 @@
 -- The rules of expressions keep to what is due.
-use Rattle.std.proofs.Common.{ℕ, ◌+◌, ◌≤◌, nat_le, ◌&&◌, arith}
+use Rattle.std.proofs.Common.{ℕ, ◌+◌, ◌≤◌, nat_le, ◌&&◌, arith, Option, Some, None}
 use Rattle.c_tree.specs.Tree.{Expression}
 use Rattle.c_tree.specs.ExpressionShape.{level}
 use Rattle.c_grammar.specs.declared.kind.Kind.{Kind}
 use Rattle.c_grammar.specs.declared.kind.Kind.TheVariants as k
-use Rattle.c_grammar.specs.Rules.{NameEnvironment, First, no_operand, a_word, a_number, a_character, a_text, an_open, a_sizeof, a_step, a_unary, first_of_operand, Infix, no_infix, a_comma, an_assign, a_question, an_operator, an_index, a_call, a_dot, an_arrow, a_step_behind, infix_of, goes_on, begins_type, opened_by, sizeof_by, prefix_by, longer, texts_by, arguments_by, more_arguments_by, an_expression, a_whole, a_prefix, a_rest, an_opened, more_texts, all_arguments, more_arguments}
+use Rattle.c_grammar.specs.Rules.{NameEnvironment, first_of_operand, infix_of, goes_on, begins_type, opened_by, sizeof_by, prefix_by, longer, texts_by, arguments_by, more_arguments_by, an_expression, a_whole, a_prefix, a_rest, an_opened, more_texts, all_arguments, more_arguments}
+use Rattle.c_grammar.specs.declared.infix.First.{First}
+use Rattle.c_grammar.specs.declared.infix.Infix.{Infix}
+use Rattle.c_grammar.specs.declared.infix.First.TheVariants as fi
+use Rattle.c_grammar.specs.declared.infix.Infix.TheVariants as ix
 use Rattle.grammar_limits.proofs.Dues.{Safe, Due, safe_done, safe_stop, safe_look, safe_take, safe_spend, safe_rise, safe_call, safe_scope, safe_if, safe_expect, safe_name}
 
 -- an expression
@@ -24,32 +28,32 @@ opened_safe : (t : NameEnvironment) (d l u c : ℕ) (e : Kind) → d + 21 ≤ u 
 opened_safe t d l u c e room h = safe_if (begins_type e && nat_le l 14) (safe_call (omega arith) (omega arith) (omega arith) (omega arith) (λ _. safe_expect k.CloseParen (safe_call (omega arith) (omega arith) (omega arith) (omega arith) (λ _. safe_done (omega arith) (omega arith))))) (safe_call (omega arith) (omega arith) (omega arith) (omega arith) (λ _. safe_expect k.CloseParen (safe_done (omega arith) (omega arith))))
 
 -- by the first token of an operand
-prefix-by : (t : NameEnvironment) (d l o : ℕ) (f : First) → o ≤ 5 → Safe (prefix_by t d l o f) 10 0 (d + 20) 10 0
-prefix-by t d l o no_operand low = safe_stop
-prefix-by t d l o a_word low = safe_spend (omega arith) (omega arith) (safe_take (λ _. safe_done (omega arith) (omega arith)))
-prefix-by t d l o a_number low = safe_spend (omega arith) (omega arith) (safe_take (λ _. safe_done (omega arith) (omega arith)))
-prefix-by t d l o a_character low = safe_spend (omega arith) (omega arith) (safe_take (λ _. safe_done (omega arith) (omega arith)))
-prefix-by t d l o a_text low = safe_spend (omega arith) (omega arith) (safe_take (λ _. safe_call (omega arith) (omega arith) (omega arith) (omega arith) (λ _. safe_done (omega arith) (omega arith))))
-prefix-by t d l o an_open low = safe_spend (omega arith) (omega arith) (safe_take (λ _. safe_look (λ e. opened_safe t d l _ _ e (omega arith) (omega arith))))
-prefix-by t d l o a_sizeof low = safe_spend (omega arith) (omega arith) (safe_take (λ _. safe_look (λ e. sizeof_safe t d _ _ e (omega arith) (omega arith))))
-prefix-by t d l o (a_step x) low = safe_spend (omega arith) (omega arith) (safe_take (λ _. safe_call (omega arith) (omega arith) (omega arith) (omega arith) (λ _. safe_done (omega arith) (omega arith))))
-prefix-by t d l o (a_unary x) low = safe_spend (omega arith) (omega arith) (safe_take (λ _. safe_call (omega arith) (omega arith) (omega arith) (omega arith) (λ _. safe_done (omega arith) (omega arith))))
+prefix-by : (t : NameEnvironment) (d l o : ℕ) (f : Option First) → o ≤ 5 → Safe (prefix_by t d l o f) 10 0 (d + 20) 10 0
+prefix-by t d l o None low = safe_stop
+prefix-by t d l o (Some fi.Word) low = safe_spend (omega arith) (omega arith) (safe_take (λ _. safe_done (omega arith) (omega arith)))
+prefix-by t d l o (Some fi.Number) low = safe_spend (omega arith) (omega arith) (safe_take (λ _. safe_done (omega arith) (omega arith)))
+prefix-by t d l o (Some fi.Character) low = safe_spend (omega arith) (omega arith) (safe_take (λ _. safe_done (omega arith) (omega arith)))
+prefix-by t d l o (Some fi.Text) low = safe_spend (omega arith) (omega arith) (safe_take (λ _. safe_call (omega arith) (omega arith) (omega arith) (omega arith) (λ _. safe_done (omega arith) (omega arith))))
+prefix-by t d l o (Some fi.Open) low = safe_spend (omega arith) (omega arith) (safe_take (λ _. safe_look (λ e. opened_safe t d l _ _ e (omega arith) (omega arith))))
+prefix-by t d l o (Some fi.Sizeof) low = safe_spend (omega arith) (omega arith) (safe_take (λ _. safe_look (λ e. sizeof_safe t d _ _ e (omega arith) (omega arith))))
+prefix-by t d l o (Some (fi.Step x)) low = safe_spend (omega arith) (omega arith) (safe_take (λ _. safe_call (omega arith) (omega arith) (omega arith) (omega arith) (λ _. safe_done (omega arith) (omega arith))))
+prefix-by t d l o (Some (fi.Unary x)) low = safe_spend (omega arith) (omega arith) (safe_take (λ _. safe_call (omega arith) (omega arith) (omega arith) (omega arith) (λ _. safe_done (omega arith) (omega arith))))
 
 pub prefix-due : (t : NameEnvironment) (d l o : ℕ) → Due (a_prefix t d l o)
 prefix-due t d l o low = safe_look (λ e. prefix-by t d l o (first_of_operand e) low)
 
 -- how an expression goes on
-longer-by : (t : NameEnvironment) (d l : ℕ) (x : Expression) (i : Infix) → Safe (longer t d l x i) 10 0 (d + 20) 10 0
-longer-by t d l x no_infix = safe_done (omega arith) (omega arith)
-longer-by t d l x a_comma = safe_rise (omega arith) (safe_spend (omega arith) (omega arith) (safe_take (λ _. safe_call (omega arith) (omega arith) (omega arith) (omega arith) (λ _. safe_call (omega arith) (omega arith) (omega arith) (omega arith) (λ _. safe_done (omega arith) (omega arith))))))
-longer-by t d l x (an_assign o) = safe_rise (omega arith) (safe_spend (omega arith) (omega arith) (safe_take (λ _. safe_call (omega arith) (omega arith) (omega arith) (omega arith) (λ _. safe_call (omega arith) (omega arith) (omega arith) (omega arith) (λ _. safe_done (omega arith) (omega arith))))))
-longer-by t d l x a_question = safe_rise (omega arith) (safe_spend (omega arith) (omega arith) (safe_take (λ _. safe_call (omega arith) (omega arith) (omega arith) (omega arith) (λ _. safe_expect k.Colon (safe_call (omega arith) (omega arith) (omega arith) (omega arith) (λ _. safe_call (omega arith) (omega arith) (omega arith) (omega arith) (λ _. safe_done (omega arith) (omega arith))))))))
-longer-by t d l x (an_operator o) = safe_rise (omega arith) (safe_spend (omega arith) (omega arith) (safe_take (λ _. safe_call (omega arith) (omega arith) (omega arith) (omega arith) (λ _. safe_call (omega arith) (omega arith) (omega arith) (omega arith) (λ _. safe_done (omega arith) (omega arith))))))
-longer-by t d l x an_index = safe_rise (omega arith) (safe_spend (omega arith) (omega arith) (safe_take (λ _. safe_call (omega arith) (omega arith) (omega arith) (omega arith) (λ _. safe_expect k.CloseBracket (safe_call (omega arith) (omega arith) (omega arith) (omega arith) (λ _. safe_done (omega arith) (omega arith)))))))
-longer-by t d l x a_call = safe_rise (omega arith) (safe_spend (omega arith) (omega arith) (safe_take (λ _. safe_call (omega arith) (omega arith) (omega arith) (omega arith) (λ _. safe_call (omega arith) (omega arith) (omega arith) (omega arith) (λ _. safe_done (omega arith) (omega arith))))))
-longer-by t d l x a_dot = safe_rise (omega arith) (safe_spend (omega arith) (omega arith) (safe_take (λ _. safe_name (λ _. safe_call (omega arith) (omega arith) (omega arith) (omega arith) (λ _. safe_done (omega arith) (omega arith))))))
-longer-by t d l x an_arrow = safe_rise (omega arith) (safe_spend (omega arith) (omega arith) (safe_take (λ _. safe_name (λ _. safe_call (omega arith) (omega arith) (omega arith) (omega arith) (λ _. safe_done (omega arith) (omega arith))))))
-longer-by t d l x (a_step_behind o) = safe_rise (omega arith) (safe_spend (omega arith) (omega arith) (safe_take (λ _. safe_call (omega arith) (omega arith) (omega arith) (omega arith) (λ _. safe_done (omega arith) (omega arith)))))
+longer-by : (t : NameEnvironment) (d l : ℕ) (x : Expression) (i : Option Infix) → Safe (longer t d l x i) 10 0 (d + 20) 10 0
+longer-by t d l x None = safe_done (omega arith) (omega arith)
+longer-by t d l x (Some ix.Comma) = safe_rise (omega arith) (safe_spend (omega arith) (omega arith) (safe_take (λ _. safe_call (omega arith) (omega arith) (omega arith) (omega arith) (λ _. safe_call (omega arith) (omega arith) (omega arith) (omega arith) (λ _. safe_done (omega arith) (omega arith))))))
+longer-by t d l x (Some (ix.Assign o)) = safe_rise (omega arith) (safe_spend (omega arith) (omega arith) (safe_take (λ _. safe_call (omega arith) (omega arith) (omega arith) (omega arith) (λ _. safe_call (omega arith) (omega arith) (omega arith) (omega arith) (λ _. safe_done (omega arith) (omega arith))))))
+longer-by t d l x (Some ix.Question) = safe_rise (omega arith) (safe_spend (omega arith) (omega arith) (safe_take (λ _. safe_call (omega arith) (omega arith) (omega arith) (omega arith) (λ _. safe_expect k.Colon (safe_call (omega arith) (omega arith) (omega arith) (omega arith) (λ _. safe_call (omega arith) (omega arith) (omega arith) (omega arith) (λ _. safe_done (omega arith) (omega arith))))))))
+longer-by t d l x (Some (ix.Operator o)) = safe_rise (omega arith) (safe_spend (omega arith) (omega arith) (safe_take (λ _. safe_call (omega arith) (omega arith) (omega arith) (omega arith) (λ _. safe_call (omega arith) (omega arith) (omega arith) (omega arith) (λ _. safe_done (omega arith) (omega arith))))))
+longer-by t d l x (Some ix.Index) = safe_rise (omega arith) (safe_spend (omega arith) (omega arith) (safe_take (λ _. safe_call (omega arith) (omega arith) (omega arith) (omega arith) (λ _. safe_expect k.CloseBracket (safe_call (omega arith) (omega arith) (omega arith) (omega arith) (λ _. safe_done (omega arith) (omega arith)))))))
+longer-by t d l x (Some ix.Call) = safe_rise (omega arith) (safe_spend (omega arith) (omega arith) (safe_take (λ _. safe_call (omega arith) (omega arith) (omega arith) (omega arith) (λ _. safe_call (omega arith) (omega arith) (omega arith) (omega arith) (λ _. safe_done (omega arith) (omega arith))))))
+longer-by t d l x (Some ix.Dot) = safe_rise (omega arith) (safe_spend (omega arith) (omega arith) (safe_take (λ _. safe_name (λ _. safe_call (omega arith) (omega arith) (omega arith) (omega arith) (λ _. safe_done (omega arith) (omega arith))))))
+longer-by t d l x (Some ix.Arrow) = safe_rise (omega arith) (safe_spend (omega arith) (omega arith) (safe_take (λ _. safe_name (λ _. safe_call (omega arith) (omega arith) (omega arith) (omega arith) (λ _. safe_done (omega arith) (omega arith))))))
+longer-by t d l x (Some (ix.Step o)) = safe_rise (omega arith) (safe_spend (omega arith) (omega arith) (safe_take (λ _. safe_call (omega arith) (omega arith) (omega arith) (omega arith) (λ _. safe_done (omega arith) (omega arith)))))
 
 pub rest-due : (t : NameEnvironment) (d l : ℕ) (x : Expression) → Due (a_rest t d l x)
 rest-due t d l x low = safe_look (λ e. safe_if (goes_on l (infix_of e) (level x)) (longer-by t d l x (infix_of e)) (safe_done (omega arith) (omega arith)))

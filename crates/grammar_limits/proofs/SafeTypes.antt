@@ -1,12 +1,16 @@
 -- The rules of types keep to what is due.
-use Rattle.std.proofs.Common.{ℕ, ◌+◌, ◌≤◌, Bool, false, cond, List, [], ◌∷◌, ◌++◌, arith}
+use Rattle.std.proofs.Common.{ℕ, ◌+◌, ◌≤◌, Bool, false, cond, List, [], ◌∷◌, ◌++◌, arith, Option, Some, None}
 use Rattle.c_tree.specs.Tree.{Name, Specifier, specifiers, type_name}
-use Rattle.c_tree.specs.TypeWords.{TypeWord, of_whole, is_one_type}
+use Rattle.c_tree.specs.TypeWords.{is_one_type}
+use Rattle.c_tree.specs.declared.type_word.TypeWord.{TypeWord}
+use Rattle.c_tree.specs.declared.type_word.TypeWord.TheVariants as tw
 use Rattle.c_grammar.specs.declared.kind.Kind.{Kind}
 use Rattle.c_grammar.specs.declared.kind.Kind.TheVariants as k
 use Rattle.c_grammar.specs.Body.{done}
 use Rattle.c_grammar.specs.Body as body
-use Rattle.c_grammar.specs.Rules.{NameEnvironment, Start, no_specifier, a_qualifier, a_type_word, a_type_name, a_struct_word, an_enum_word, start_of, begins_type, ends_type, naming, specifiers_by, struct_body_by, struct_by, more_members_by, more_declarators_by, enum_body_by, enum_by, enumerator_by, next_enumerator_by, more_enumerators_by, a_type, all_specifiers, a_struct, all_members, more_members, all_declarators, more_declarators, an_enum, all_enumerators, more_enumerators}
+use Rattle.c_grammar.specs.Rules.{NameEnvironment, start_of, begins_type, ends_type, naming, specifiers_by, struct_body_by, struct_by, more_members_by, more_declarators_by, enum_body_by, enum_by, enumerator_by, next_enumerator_by, more_enumerators_by, a_type, all_specifiers, a_struct, all_members, more_members, all_declarators, more_declarators, an_enum, all_enumerators, more_enumerators, keyword_of, type_word}
+use Rattle.c_grammar.specs.declared.start.Start.{Start}
+use Rattle.c_grammar.specs.declared.start.Start.TheVariants as sp
 use Rattle.grammar_limits.proofs.Dues.{Safe, Due, safe_done, safe_stop, safe_look, safe_take, safe_spend, safe_call, safe_if, safe_expect, safe_name, safe_naming}
 
 pub type-due : (t : NameEnvironment) (d : ℕ) → Due (a_type t d)
@@ -20,13 +24,13 @@ ends-by t d ws = safe_if (is_one_type ws) (safe_done (omega arith) (omega arith)
 word-by : (t : NameEnvironment) (d : ℕ) (b : Bool) (ws : List TypeWord) (f : Name → Specifier) → Safe (naming b d (body.take (λ n. body.call (all_specifiers t d false ws) (λ xs. done (specifiers (f n) xs))))) 10 0 (d + 20) 10 0
 word-by t d b ws f = safe_naming b d (omega arith) (omega arith) (safe_take (λ _. safe_call (omega arith) (omega arith) (omega arith) (omega arith) (λ _. safe_done (omega arith) (omega arith)))) (safe_take (λ _. safe_call (omega arith) (omega arith) (omega arith) (omega arith) (λ _. safe_done (omega arith) (omega arith))))
 
-specifiers-by : (t : NameEnvironment) (d : ℕ) (b : Bool) (ws : List TypeWord) (s : Start) → Safe (specifiers_by t d b ws s) 10 0 (d + 20) 10 0
-specifiers-by t d b ws no_specifier = ends-by t d ws
-specifiers-by t d b ws (a_qualifier x) = safe_take (λ _. safe_call (omega arith) (omega arith) (omega arith) (omega arith) (λ _. safe_done (omega arith) (omega arith)))
-specifiers-by t d b ws (a_type_word w x) = safe_if (is_one_type (ws ++ w ∷ [])) (word-by t d b (ws ++ w ∷ []) (λ _. x)) (ends-by t d ws)
-specifiers-by t d b ws a_type_name = safe_if (is_one_type (ws ++ of_whole ∷ [])) (word-by t d b (ws ++ of_whole ∷ []) type_name) (ends-by t d ws)
-specifiers-by t d b ws a_struct_word = safe_if (is_one_type (ws ++ of_whole ∷ [])) (safe_take (λ _. safe_call (omega arith) (omega arith) (omega arith) (omega arith) (λ _. safe_call (omega arith) (omega arith) (omega arith) (omega arith) (λ _. safe_done (omega arith) (omega arith))))) (ends-by t d ws)
-specifiers-by t d b ws an_enum_word = safe_if (is_one_type (ws ++ of_whole ∷ [])) (safe_take (λ _. safe_call (omega arith) (omega arith) (omega arith) (omega arith) (λ _. safe_call (omega arith) (omega arith) (omega arith) (omega arith) (λ _. safe_done (omega arith) (omega arith))))) (ends-by t d ws)
+specifiers-by : (t : NameEnvironment) (d : ℕ) (b : Bool) (ws : List TypeWord) (s : Option Start) → Safe (specifiers_by t d b ws s) 10 0 (d + 20) 10 0
+specifiers-by t d b ws None = ends-by t d ws
+specifiers-by t d b ws (Some (sp.Qualifier x)) = safe_take (λ _. safe_call (omega arith) (omega arith) (omega arith) (omega arith) (λ _. safe_done (omega arith) (omega arith)))
+specifiers-by t d b ws (Some (sp.Keyword x)) = safe_if (is_one_type (ws ++ type_word x ∷ [])) (word-by t d b (ws ++ type_word x ∷ []) (λ _. keyword_of x)) (ends-by t d ws)
+specifiers-by t d b ws (Some sp.TypeName) = safe_if (is_one_type (ws ++ tw.Whole ∷ [])) (word-by t d b (ws ++ tw.Whole ∷ []) type_name) (ends-by t d ws)
+specifiers-by t d b ws (Some sp.Struct) = safe_if (is_one_type (ws ++ tw.Whole ∷ [])) (safe_take (λ _. safe_call (omega arith) (omega arith) (omega arith) (omega arith) (λ _. safe_call (omega arith) (omega arith) (omega arith) (omega arith) (λ _. safe_done (omega arith) (omega arith))))) (ends-by t d ws)
+specifiers-by t d b ws (Some sp.Enum) = safe_if (is_one_type (ws ++ tw.Whole ∷ [])) (safe_take (λ _. safe_call (omega arith) (omega arith) (omega arith) (omega arith) (λ _. safe_call (omega arith) (omega arith) (omega arith) (omega arith) (λ _. safe_done (omega arith) (omega arith))))) (ends-by t d ws)
 
 -- the words of a type
 pub specifiers-due : (t : NameEnvironment) (d : ℕ) (b : Bool) (ws : List TypeWord) → Due (all_specifiers t d b ws)

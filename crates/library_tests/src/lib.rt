@@ -11,7 +11,11 @@ mod flat_reading;
 #[cfg(test)]
 mod flat_trees;
 #[cfg(test)]
+mod function_rows;
+#[cfg(test)]
 mod grammar_cursor;
+#[cfg(test)]
+mod job_words;
 #[cfg(test)]
 mod judgements;
 #[cfg(test)]
@@ -28,3 +32,4 @@ mod signal_sets;
 mod states;
 #[cfg(test)]
 mod value_tables;
+mod token_texts;

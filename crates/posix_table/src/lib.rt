@@ -21,8 +21,6 @@ mod name;
 mod params;
 mod row;
 mod table;
-#[cfg(test)]
-mod tests;
 mod text;
 
 pub use kind::{Effect, Param, ResultKind};

@@ -1,7 +1,7 @@
 -- The statements of a block, one by one.
 use Rattle.std.proofs.Common.{◌≡◌, ◌≢◌, ◌<◌, ℕ, nat_lt, cond, Bool, true, false, List, [], ◌∷◌, length, refl, sym, ap, ◌∙◌, subst, arith}
 use Rattle.std.proofs.lemmas.Bool.Decides.{nat_tests}
-use Rattle.c_tree.specs.Shape.{Place}
+use Rattle.c_tree.specs.Shape.{Context}
 use Rattle.c_tree.specs.Tree.{StatementTree, Statements, no_statements, statements}
 use Rattle.c_tree.specs.Marks.{Tokens}
 use Rattle.c_tree.specs.StatementView.{statements_of}
@@ -39,7 +39,7 @@ strict_under n (got v us m) = tested_under (nat_lt (length us) n) n v us m (λ i
 strict_under n (refused us) = tt
 strict_under n (exceeded us) = tt
 
-module _ (t : NameEnvironment) (d : ℕ) (p : Place) where
+module _ (t : NameEnvironment) (d : ℕ) (p : Context) where
   abbrev others : StatementTree → Reader Meter Statements
   others x us m = mapped (statements x) (read (all_statements t d p) (at us m))
 

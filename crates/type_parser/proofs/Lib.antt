@@ -1,6 +1,6 @@
 pub mod DeclaratorLists
 pub mod ParameterLists
-pub mod SpecifierWordLemmas
+pub mod PointerParts
 pub mod SpecifierLoop
 pub mod TaggedShorter
 pub mod TaggedDeclarators

@@ -1,7 +1,9 @@
 -- Specifiers, one by one.
-use Rattle.std.proofs.Common.{◌≡◌, ◌<◌, ◌≤◌, ℕ, ◌+◌, Bool, true, false, ◌&&◌, cond, List, [], ◌∷◌, ◌++◌, length, Option, Some, None, refl, sym, ap, ◌∙◌, subst, arith}
+use Rattle.std.proofs.Common.{◌≡◌, ◌<◌, ◌≤◌, ℕ, ◌+◌, Bool, true, false, cond, List, [], ◌∷◌, ◌++◌, length, Option, Some, None, refl, sym, ap, ◌∙◌, subst, arith}
 use Rattle.c_tree.specs.Tree.{Specifier, Specifiers, no_specifiers, specifiers, type_name}
-use Rattle.c_tree.specs.TypeWords.{TypeWord, is_one_type, of_whole}
+use Rattle.c_tree.specs.TypeWords.{is_one_type}
+use Rattle.c_tree.specs.declared.type_word.TypeWord.{TypeWord}
+use Rattle.c_tree.specs.declared.type_word.TypeWord.TheVariants as tw
 use Rattle.c_tree.specs.Marks.{Tokens}
 use Rattle.c_tree.specs.View.{specifiers_of}
 use Rattle.c_grammar.specs.declared.kind.Kind.{Kind}
@@ -11,8 +13,7 @@ use Rattle.c_grammar.specs.Body as body
 use Rattle.c_grammar.specs.Gauge.{Meter, within, added}
 use Rattle.c_grammar.specs.Input.{Input, next, metered}
 use Rattle.c_grammar.specs.Reading.{read}
-use Rattle.c_grammar.specs.Rules as rules
-use Rattle.c_grammar.specs.Rules.{Reads, NameEnvironment, skip, naming, all_specifiers, specifiers_by, ends_type, start_of, a_struct, an_enum}
+use Rattle.c_grammar.specs.Rules.{qualifier_of, keyword_of, type_word, Reads, NameEnvironment, skip, naming, all_specifiers, specifiers_by, ends_type, start_of, a_struct, an_enum}
 use Rattle.c_grammar.proofs.KindLemmas.{kind_end}
 use Rattle.c_grammar.specs.declared.refusal.Refusal.{Refusal}
 use Rattle.c_grammar.specs.declared.refusal.Refusal.TheVariants.{Syntax}
@@ -23,10 +24,9 @@ use Rattle.c_grammar.proofs.Joining.{tail_mapped, then_fails, perform_leaves}
 use Rattle.c_grammar.proofs.Loops.{Turn, Loop, loop_begins}
 use Rattle.c_grammar.proofs.Opens.{specifiers_performs}
 use Rattle.c_grammar.proofs.Shorter.{Leaves, paid_leaves}
-use Rattle.type_parser.specs.declared.words.Start.{Start}
-use Rattle.type_parser.specs.declared.words.Start.TheVariants as s
-use Rattle.type_parser.specs.declared.words.Word.TheVariants as w
-use Rattle.type_parser.specs.SpecifierWords.{a_specifier, is_type_word, stays, view_start, specifier_of, word_of, behind, goes_on, Follows, Ends, Goes}
+use Rattle.c_grammar.specs.declared.start.Start.{Start}
+use Rattle.c_grammar.specs.declared.start.Start.TheVariants as sp
+use Rattle.type_parser.specs.SpecifierWords.{a_specifier, stays, word_of, behind, goes_on, Follows, Ends, Goes}
 
 module _ (t : NameEnvironment) (d : ℕ) where
   -- the specifiers behind one of them
@@ -52,9 +52,9 @@ module _ (t : NameEnvironment) (d : ℕ) where
       perform (naming b d (skip (body.call (all_specifiers t d false ws) (λ xs. done (specifiers x xs))))) i ≡ and_then (perform (naming b d (skip (done x))) i) (others false ws)
   keyword b ws x i = named b _ _ (others false ws) i (λ m. tail_mapped (specifiers x) (read (all_specifiers t d false ws) (next (metered m i))))
 
-  type_word : (b : Bool) (ws : List TypeWord) (i : Input) →
+  named_type : (b : Bool) (ws : List TypeWord) (i : Input) →
       perform (naming b d (take (λ n. body.call (all_specifiers t d false ws) (λ xs. done (specifiers (type_name n) xs))))) i ≡ and_then (perform (naming b d (take (λ n. done (type_name n)))) i) (others false ws)
-  type_word b ws i = named b _ _ (others false ws) i (λ m. tail_mapped (specifiers (type_name (head_text i.rest))) (read (all_specifiers t d false ws) (next (metered m i))))
+  named_type b ws i = named b _ _ (others false ws) i (λ m. tail_mapped (specifiers (type_name (head_text i.rest))) (read (all_specifiers t d false ws) (next (metered m i))))
 
   tagged : (ws : List TypeWord) (o : Outcome Meter Specifier) →
       and_then o (λ x us m. and_then (read (all_specifiers t d false ws) (at us m)) (λ xs vs n. got (specifiers x xs) vs n)) ≡ and_then (and_then o (λ x us m. got x us m)) (others false ws)
@@ -62,43 +62,36 @@ module _ (t : NameEnvironment) (d : ℕ) where
   tagged ws (refused us) = refl
   tagged ws (exceeded us) = refl
 
-  goes : (b : Bool) (ws : List TypeWord) (x : Start) (i : Input) → goes_on ws (view_start (Some x)) ≡ true →
-      perform (specifiers_by t d b ws (view_start (Some x))) i ≡ and_then (perform (a_specifier t d b x) i) (others (stays b (view_start (Some x))) (behind ws (word_of (view_start (Some x)))))
-  goes b ws (s.Word w.Const) i may = tail_mapped (specifiers (specifier_of w.Const)) (read (all_specifiers t d b ws) (next i))
-  goes b ws (s.Word w.Volatile) i may = tail_mapped (specifiers (specifier_of w.Volatile)) (read (all_specifiers t d b ws) (next i))
-  goes b ws (s.Word w.Void) i may = chosen _ _ _ i may ∙ keyword b (behind ws (word_of (view_start (Some (s.Word w.Void))))) (specifier_of w.Void) i
-  goes b ws (s.Word w.Char) i may = chosen _ _ _ i may ∙ keyword b (behind ws (word_of (view_start (Some (s.Word w.Char))))) (specifier_of w.Char) i
-  goes b ws (s.Word w.Short) i may = chosen _ _ _ i may ∙ keyword b (behind ws (word_of (view_start (Some (s.Word w.Short))))) (specifier_of w.Short) i
-  goes b ws (s.Word w.Int) i may = chosen _ _ _ i may ∙ keyword b (behind ws (word_of (view_start (Some (s.Word w.Int))))) (specifier_of w.Int) i
-  goes b ws (s.Word w.Long) i may = chosen _ _ _ i may ∙ keyword b (behind ws (word_of (view_start (Some (s.Word w.Long))))) (specifier_of w.Long) i
-  goes b ws (s.Word w.Signed) i may = chosen _ _ _ i may ∙ keyword b (behind ws (word_of (view_start (Some (s.Word w.Signed))))) (specifier_of w.Signed) i
-  goes b ws (s.Word w.Unsigned) i may = chosen _ _ _ i may ∙ keyword b (behind ws (word_of (view_start (Some (s.Word w.Unsigned))))) (specifier_of w.Unsigned) i
-  goes b ws s.TypeName i may = chosen _ _ _ i may ∙ type_word b (ws ++ of_whole ∷ []) i
-  goes b ws s.Struct i may = chosen _ _ _ i may ∙ tagged (ws ++ of_whole ∷ []) (read (a_struct t d) (next i))
-  goes b ws s.Enum i may = chosen _ _ _ i may ∙ tagged (ws ++ of_whole ∷ []) (read (an_enum t d) (next i))
+  goes : (b : Bool) (ws : List TypeWord) (x : Start) (i : Input) → goes_on ws (Some x) ≡ true →
+      perform (specifiers_by t d b ws (Some x)) i ≡ and_then (perform (a_specifier t d b x) i) (others (stays b x) (behind ws (word_of (Some x))))
+  goes b ws (sp.Qualifier x) i may = tail_mapped (specifiers (qualifier_of x)) (read (all_specifiers t d b ws) (next i))
+  goes b ws (sp.Keyword x) i may = chosen _ _ _ i may ∙ keyword b (ws ++ type_word x ∷ []) (keyword_of x) i
+  goes b ws sp.TypeName i may = chosen _ _ _ i may ∙ named_type b (ws ++ tw.Whole ∷ []) i
+  goes b ws sp.Struct i may = chosen _ _ _ i may ∙ tagged (ws ++ tw.Whole ∷ []) (read (a_struct t d) (next i))
+  goes b ws sp.Enum i may = chosen _ _ _ i may ∙ tagged (ws ++ tw.Whole ∷ []) (read (an_enum t d) (next i))
 
-  goes_by : (b : Bool) (ws : List TypeWord) (x : Start) (i : Input) (f : rules.Start) → f ≡ view_start (Some x) → goes_on ws f ≡ true →
-      perform (specifiers_by t d b ws f) i ≡ and_then (perform (a_specifier t d b x) i) (others (stays b (view_start (Some x))) (behind ws (word_of f)))
+  goes_by : (b : Bool) (ws : List TypeWord) (x : Start) (i : Input) (f : Option Start) → f ≡ Some x → goes_on ws f ≡ true →
+      perform (specifiers_by t d b ws f) i ≡ and_then (perform (a_specifier t d b x) i) (others (stays b x) (behind ws (word_of f)))
   goes_by b ws x i f is may =
-      subst (λ f. goes_on ws f ≡ true → perform (specifiers_by t d b ws f) i ≡ and_then (perform (a_specifier t d b x) i) (others (stays b (view_start (Some x))) (behind ws (word_of f)))) (sym is) (goes b ws x i) may
+      subst (λ f. goes_on ws f ≡ true → perform (specifiers_by t d b ws f) i ≡ and_then (perform (a_specifier t d b x) i) (others (stays b x) (behind ws (word_of f)))) (sym is) (goes b ws x i) may
 
   specifiers_on : (i : Input) (b : Bool) (ws new : List TypeWord) (x : Start) → Follows (start_of (kind t.types i.rest)) ws x new →
-      read (all_specifiers t d b ws) i ≡ and_then (perform (a_specifier t d b x) i) (others (stays b (view_start (Some x))) new)
+      read (all_specifiers t d b ws) i ≡ and_then (perform (a_specifier t d b x) i) (others (stays b x) new)
   specifiers_on i b ws new x h =
       specifiers_performs t d b ws i ∙ goes_by b ws x i (start_of (kind t.types i.rest)) h.start h.goes ∙
-      ap (λ z. and_then (perform (a_specifier t d b x) i) (others (stays b (view_start (Some x))) z)) (sym h.added)
+      ap (λ z. and_then (perform (a_specifier t d b x) i) (others (stays b x) z)) (sym h.added)
 
   -- one more specifier, and the others
   pub specifiers_turn : (i j : Input) (b c : Bool) (ws new : List TypeWord) (x : Start) (v : Specifier) → Follows (start_of (kind t.types i.rest)) ws x new →
-      perform (a_specifier t d b x) i ≡ got v j.rest j.meter → c ≡ stays b (view_start (Some x)) →
+      perform (a_specifier t d b x) i ≡ got v j.rest j.meter → c ≡ stays b x →
       Turn specifiers v (read (all_specifiers t d b ws) i) (read (all_specifiers t d c new) j)
   specifiers_turn i j b c ws new x v h e same = record {
-    is = specifiers_on i b ws new x h ∙ ap (λ o. and_then o (others (stays b (view_start (Some x))) new)) e ∙ ap (λ z. mapped (specifiers v) (read (all_specifiers t d z new) j)) (sym same);
+    is = specifiers_on i b ws new x h ∙ ap (λ o. and_then o (others (stays b x) new)) e ∙ ap (λ z. mapped (specifiers v) (read (all_specifiers t d z new) j)) (sym same);
   }
 
   pub specifiers_fail : (i : Input) (b : Bool) (ws new : List TypeWord) (x : Start) (e : Refusal) → Follows (start_of (kind t.types i.rest)) ws x new → Fails (perform (a_specifier t d b x) i) e →
       Fails (read (all_specifiers t d b ws) i) e
-  specifiers_fail i b ws new x e h f = subst (λ o. Fails o e) (sym (specifiers_on i b ws new x h)) (then_fails (others (stays b (view_start (Some x))) new) f)
+  specifiers_fail i b ws new x e h f = subst (λ o. Fails o e) (sym (specifiers_on i b ws new x h)) (then_fails (others (stays b x) new) f)
 
   -- ---- behind the last
 
@@ -106,13 +99,13 @@ module _ (t : NameEnvironment) (d : ℕ) where
   no_more true f g may = absurd cc
   no_more false f g may = refl
 
-  off : (b : Bool) (ws : List TypeWord) (f : rules.Start) → goes_on ws f ≡ false → specifiers_by t d b ws f ≡ ends_type ws
-  off b ws rules.no_specifier may = refl
-  off b ws (rules.a_qualifier x) may = absurd cc
-  off b ws (rules.a_type_word y x) may = no_more _ _ _ may
-  off b ws rules.a_type_name may = no_more _ _ _ may
-  off b ws rules.a_struct_word may = no_more _ _ _ may
-  off b ws rules.an_enum_word may = no_more _ _ _ may
+  off : (b : Bool) (ws : List TypeWord) (f : Option Start) → goes_on ws f ≡ false → specifiers_by t d b ws f ≡ ends_type ws
+  off b ws None may = refl
+  off b ws (Some (sp.Qualifier x)) may = absurd cc
+  off b ws (Some (sp.Keyword x)) may = no_more _ _ _ may
+  off b ws (Some sp.TypeName) may = no_more _ _ _ may
+  off b ws (Some sp.Struct) may = no_more _ _ _ may
+  off b ws (Some sp.Enum) may = no_more _ _ _ may
 
   ended : (c : Bool) (ws : List TypeWord) (i : Input) (b : Bool) → is_one_type ws ≡ b → goes_on ws (start_of (kind t.types i.rest)) ≡ false →
       read (all_specifiers t d c ws) i ≡ perform (cond b (done no_specifiers) stop) i
@@ -134,10 +127,11 @@ module _ (t : NameEnvironment) (d : ℕ) where
   naming_leaves n false f i h = h i.meter
 
   specifier_leaves : (n : ℕ) (b : Bool) (x : Start) (i : Input) → length (tail_of i.rest) ≤ n → Leaves n (perform (a_specifier t d b x) i)
-  specifier_leaves n b (s.Word x) i h = naming_leaves n (is_type_word x && b) (skip (done (specifier_of x))) i (λ m. h)
-  specifier_leaves n b s.TypeName i h = naming_leaves n b (take (λ y. done (type_name y))) i (λ m. h)
-  specifier_leaves n b s.Struct i h = perform_leaves n (body.call (a_struct t d) done) (next i) h
-  specifier_leaves n b s.Enum i h = perform_leaves n (body.call (an_enum t d) done) (next i) h
+  specifier_leaves n b (sp.Qualifier x) i h = h
+  specifier_leaves n b (sp.Keyword x) i h = naming_leaves n b (skip (done (keyword_of x))) i (λ m. h)
+  specifier_leaves n b sp.TypeName i h = naming_leaves n b (take (λ y. done (type_name y))) i (λ m. h)
+  specifier_leaves n b sp.Struct i h = perform_leaves n (body.call (a_struct t d) done) (next i) h
+  specifier_leaves n b sp.Enum i h = perform_leaves n (body.call (an_enum t d) done) (next i) h
 
   tail_shorter : (ws : List TypeWord) (ts : Tokens) → goes_on ws (start_of (kind t.types ts)) ≡ true → length (tail_of ts) < length ts
   tail_shorter ws [] may =

@@ -1,11 +1,11 @@
 -- Parts of the rules of declarators that are functions of their own.
-use Rattle.std.specs.Prelude.{ℕ, true, Option, Some, None}
-use Rattle.c_tree.specs.Tree.{Name, Quals, Stars, Expression, Sizes, open_size, size, DeclaratorTree, BareTree, bare_pointer}
+use Rattle.std.specs.Prelude.{ℕ, Bool, true, Option, Some, None}
+use Rattle.c_tree.specs.Tree.{Name, Quals, Stars, Expression, Sizes, open_size, size, DeclaratorTree, Parameters, BareTree, bare_pointer}
 use Rattle.c_grammar.specs.declared.kind.Kind.{Kind}
 use Rattle.c_grammar.specs.declared.kind.Kind.TheVariants as k
 use Rattle.c_grammar.specs.Body as body
 use Rattle.c_grammar.specs.Body.{done, look}
-use Rattle.c_grammar.specs.Rules.{NameEnvironment, Reads, skip, expect, a_new_name, inside, pointed, all_quals, all_parameters, an_expression}
+use Rattle.c_grammar.specs.Rules.{NameEnvironment, Reads, skip, expect, a_new_name, inside, pointed, all_quals, at_most_one_size, all_parameters, an_expression}
 
 -- a star, and its qualifiers
 abbrev pub star : Reads Quals
@@ -24,6 +24,10 @@ bracketed_by t d _ = body.call (an_expression t d 3 1) (λ x. expect k.CloseBrac
 -- a size in its brackets, or the brackets alone
 abbrev pub bracketed : NameEnvironment → ℕ → Reads (Option Expression)
 bracketed t d = skip (look t.types (bracketed_by t d))
+
+-- behind the name of a pointer to a function: the size, where it is an array of them, and the parameters
+abbrev pub behind_pointer : NameEnvironment → ℕ → Reads (Sizes × (Parameters × Bool))
+behind_pointer t d = body.call (at_most_one_size t d) (λ xs. expect k.CloseParen (expect k.OpenParen (body.call (all_parameters t d) (λ ps. done (xs, ps)))))
 
 -- behind the bracket of a pointer to a function
 abbrev pub pointer_from : NameEnvironment → ℕ → Stars → Reads DeclaratorTree

@@ -1,11 +1,11 @@
 -- Parameters of a function, one by one and as a list.
-use Rattle.std.specs.Prelude.{ℕ, List, [], ◌∷◌, Bool, true, false, ◌&&◌}
-use Rattle.c_tree.specs.Tree.{Specifier, void_word, Specifiers, specifiers, no_specifiers, Parameters, parameters, ParameterForm, bare_form, bare_stars, Stars}
+use Rattle.std.specs.Prelude.{ℕ, ◌+◌, List, [], ◌∷◌, Bool, true, false, ◌&&◌}
+use Rattle.c_tree.specs.Tree.{Specifier, void_word, Specifiers, specifiers, no_specifiers, Parameters, parameters, ParameterForm, named_form, bare_form, bare_stars, Name, pointer, Quals, Stars}
 use Rattle.c_tree.specs.View.{parameters_of}
 use Rattle.c_grammar.specs.declared.kind.Kind.TheVariants as k
 use Rattle.c_grammar.specs.Body.{done, look, scope}
 use Rattle.c_grammar.specs.Body as body
-use Rattle.c_grammar.specs.Rules.{NameEnvironment, Reads, Parameter, skip, expect, barred, a_parameter, all_quals, parameter_pointer_by, listed_parameters}
+use Rattle.c_grammar.specs.Rules.{NameEnvironment, Reads, Parameter, skip, expect, barred, a_parameter, all_quals, at_most_one_size, all_parameters, parameter_pointer_by, listed_parameters}
 
 -- the word void
 abbrev pub is_void_word : Specifier → Bool
@@ -45,6 +45,11 @@ one_parameter t d = scope d (a_parameter t d) done
 -- one more, behind a comma
 abbrev pub another_parameter : NameEnvironment → ℕ → Reads Parameter
 another_parameter t d = skip (scope d (a_parameter t d) done)
+
+-- behind the name of a pointer to a function
+abbrev pub pointer_parameter : NameEnvironment → ℕ → Specifiers → Stars → Quals → Name → Reads Parameter
+pointer_parameter t d ws ss qs n =
+    body.call (at_most_one_size t (d + 1)) (λ xs. expect k.CloseParen (expect k.OpenParen (body.call (all_parameters t (d + 1)) (λ ps. done (ws, named_form (pointer ss qs n xs ps.0 ps.1))))))
 
 -- behind the bracket of a pointer to a function
 abbrev pub inner_by : NameEnvironment → ℕ → Specifiers → Stars → Reads Parameter

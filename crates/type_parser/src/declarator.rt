@@ -1,20 +1,20 @@
 //! Declarators.
 
 ghost use Rattle.std.specs.Prelude.{◌≤◌, [], false, map, option_map};
-ghost use Rattle.c_tree.specs.View.{view_expression, view_declarator, view_bare, sizes_of};
+ghost use Rattle.c_tree.specs.View.{view_expression, view_declarator, view_parameters, view_bare, sizes_of};
 ghost use Rattle.c_grammar.specs.Body.{look};
 ghost use Rattle.c_grammar.specs.Performing.{perform};
 ghost use Rattle.c_grammar.specs.Reading.{read};
 ghost use Rattle.c_grammar.specs.Rules.{all_sizes, at_most_one_size, a_declarator, a_bare, a_new_name, declared_by, pointed};
 ghost use Rattle.c_grammar.specs.Gives.{Gives};
 ghost use Rattle.expression_parser.specs.Nests.{Nests};
-ghost use Rattle.type_parser.specs.DeclaratorParts.{bracketed, pointer_from, bare_pointer_from};
+ghost use Rattle.type_parser.specs.DeclaratorParts.{bracketed, behind_pointer, pointer_from, bare_pointer_from};
 
 use crate::pointer::{quals, stars};
 use base_core::Lexeme;
 use c_grammar::steps::{expect, kind, new_kind, refused, word};
 use c_grammar::{Cursor, Kind, NameEnvironment, Refusal, same_kind};
-use c_tree::{Bare, Declarator, Expr, Quals, Stars};
+use c_tree::{Bare, Declarator, Expr, Params, Quals, Stars};
 use expression_parser::grammar::{Found, Grammar, Nested};
 use sqlite_items::{Boxed, Items};
 use std::alloc::Global;
@@ -139,8 +139,34 @@ pub fn declared<
     Ok(Boxed::new(grammar.alloc, found)?)
 }
 
-/// Behind the name of a pointer to a function.
-#[tactic(auto, using(c_tree::proofs::ViewLemmas::view_Declarator_Pointer))]
+/// Behind the name of a pointer to a function: the size, where it is an array of them, and the parameters.
+fn behind_pointer<
+    F: Fn(
+        Global,
+        &NameEnvironment<'_>,
+        &mut Cursor<'_>,
+        usize,
+        u32,
+        Nested,
+    ) -> Result<Found, Refusal>,
+>(
+    grammar: &Grammar<'_, F>,
+    cursor: &mut Cursor<'_>,
+    d: u32,
+) -> Result<(Items<Option<Expr>>, Params), Refusal>
+    requires nests { Nests grammar.now.budget (F.pre grammar.now.read) (F.post grammar.now.read) }
+    requires small { d ≤ 1001 }
+    ensures { Gives (λ p. (sizes_of (map (option_map view_expression) p.0), view_parameters p.1)) (perform (behind_pointer grammar.now.types.now d) cursor.old) result cursor.new }
+{
+    let sizes = one_size(grammar, cursor, d)?;
+    expect(cursor, Kind::CloseParen)?;
+    expect(cursor, Kind::OpenParen)?;
+    let params = grammar.parameters(cursor, d)?;
+    Ok((sizes, params))
+}
+
+/// Behind the name of a pointer to a function, as a declarator.
+#[tactic(auto, using(crate::proofs::PointerParts::pointed_joined, c_tree::proofs::ViewLemmas::view_Declarator_Pointer))]
 pub fn pointed<
     F: Fn(
         Global,
@@ -162,10 +188,7 @@ pub fn pointed<
     requires small { d ≤ 1001 }
     ensures { Gives view_declarator (perform (pointed grammar.now.types.now d stars quals name) cursor.old) result cursor.new }
 {
-    let sizes = one_size(grammar, cursor, d)?;
-    expect(cursor, Kind::CloseParen)?;
-    expect(cursor, Kind::OpenParen)?;
-    let params = grammar.parameters(cursor, d)?;
+    let (sizes, params) = behind_pointer(grammar, cursor, d)?;
     let found = Declarator::Pointer(stars, quals, name, sizes, params);
     Ok(Boxed::new(grammar.alloc, found)?)
 }

@@ -13,9 +13,10 @@ ghost use Rattle.expression_parser.specs.Nests.{Nests};
 ghost use Rattle.c_grammar.specs.Performing.{perform};
 ghost use Rattle.type_parser.specs.ParameterList as spec;
 
-use crate::declarator::{one_size, sizes};
+use crate::declarator::{pointed, sizes};
 use crate::pointer::{quals, stars};
 use crate::specifier::specifiers;
+use base_core::Lexeme;
 use c_grammar::steps::{expect, kind, new_kind, refused, rise, spend, word};
 use c_grammar::{Cursor, Kind, NameEnvironment, Refusal, same_kind};
 use c_tree::{Bare, Declarator, ParamForm, Parameter, Params, Quals, SpecWord, Specs, Stars};
@@ -349,8 +350,38 @@ fn inner<
     }
 }
 
+/// A pointer to a function, behind its name.
+#[tactic(auto, using(crate::proofs::PointerParts::parameter_joined, c_tree::proofs::ViewLemmas::view_Parameter, c_tree::proofs::ViewLemmas::view_ParamForm_Named))]
+fn pointer_parameter<
+    F: Fn(
+        Global,
+        &NameEnvironment<'_>,
+        &mut Cursor<'_>,
+        usize,
+        u32,
+        Nested,
+    ) -> Result<Found, Refusal>,
+>(
+    grammar: &Grammar<'_, F>,
+    cursor: &mut Cursor<'_>,
+    d: u32,
+    specs: Specs,
+    stars: Stars,
+    quals: Quals,
+    name: Lexeme,
+) -> Result<Parameter, Refusal>
+    requires nests { Nests grammar.now.budget (F.pre grammar.now.read) (F.post grammar.now.read) }
+    requires small { d ≤ 1000 }
+    ensures { Gives view_parameter (perform (spec.pointer_parameter grammar.now.types.now d (specifiers_of (map view_specifier specs)) stars quals name) cursor.old) result cursor.new }
+{
+    let declarator = pointed(grammar, cursor, d + 1, stars, quals, name)?;
+    Ok(Parameter {
+        specs,
+        form: ParamForm::Named(declarator.into_inner()),
+    })
+}
+
 /// A pointer to a function, at its name.
-#[tactic(auto, using(c_tree::proofs::ViewLemmas::view_Parameter, c_tree::proofs::ViewLemmas::view_ParamForm_Named, c_tree::proofs::ViewLemmas::view_Declarator_Pointer))]
 fn named_pointer<
     F: Fn(
         Global,
@@ -375,14 +406,7 @@ fn named_pointer<
     rise(cursor)?;
     spend(cursor, 1, d + 1)?;
     let name = word(grammar.alloc, cursor)?;
-    let sizes = one_size(grammar, cursor, d + 1)?;
-    expect(cursor, Kind::CloseParen)?;
-    expect(cursor, Kind::OpenParen)?;
-    let params = grammar.parameters(cursor, d + 1)?;
-    Ok(Parameter {
-        specs,
-        form: ParamForm::Named(Declarator::Pointer(stars, quals, name, sizes, params)),
-    })
+    pointer_parameter(grammar, cursor, d, specs, stars, quals, name)
 }
 
 /// A pointer to a function without a name, at the bracket behind its star.

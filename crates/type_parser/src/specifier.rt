@@ -11,9 +11,9 @@ ghost use Rattle.type_parser.specs.SpecifierWords.{a_specifier};
 
 use crate::declarator::bare;
 use crate::tagged::{enumeration, structure};
-use crate::words::{Start, Words, is_type_word, keyword, stays};
+use crate::words::{Words, keyword, qualifier, stays};
 use c_grammar::steps::{kind, refused, spend, word};
-use c_grammar::{Cursor, NameEnvironment, Refusal};
+use c_grammar::{Cursor, NameEnvironment, Refusal, Start};
 use c_tree::{SpecWord, Specs, TypeName};
 use expression_parser::grammar::{Found, Grammar, Nested};
 use sqlite_items::{Boxed, Items};
@@ -92,8 +92,12 @@ fn specifier<
     ensures { Gives view_specifier (perform (a_specifier grammar.now.types.now d owing start) cursor.old) result cursor.new }
 {
     match start {
-        Start::Word(found) => {
-            if is_type_word(found) && owing {
+        Start::Qualifier(found) => {
+            cursor.take();
+            Ok(qualifier(found))
+        }
+        Start::Keyword(found) => {
+            if owing {
                 spend(cursor, 1, d + 1)?;
             }
             cursor.take();

@@ -6,64 +6,28 @@ ghost use Rattle.c_tree.specs.TypeWords as tree;
 ghost use Rattle.c_tree.specs.View.{view_specifier};
 ghost use Rattle.c_grammar.specs.Rules as rules;
 ghost use Rattle.type_parser.specs.SpecifierWords as spec;
-ghost use Rattle.type_parser.specs.SpecifierWords.{specifier_of, view_start, view_word, view_some_word, view_words, word_of, is_alone, Adds, Goes};
+ghost use Rattle.type_parser.specs.SpecifierWords.{is_alone, Adds, Goes};
 
-use c_grammar::Kind;
-use c_tree::SpecWord;
+use c_grammar::{Kind, Start, TypeKeyword};
+use c_tree::{Qual, SpecWord, TypeWord};
 use sqlite_items::Items;
 use std::alloc::{AllocError, Global};
 use std::marker::Model;
 
-/// A keyword that is a specifier by itself.
-#[derive(Clone, Copy)]
-pub enum Word {
-    Const,
-    Volatile,
-    Void,
-    Char,
-    Short,
-    Int,
-    Long,
-    Signed,
-    Unsigned,
-}
-
-/// What a specifier begins with.
-#[derive(Clone, Copy)]
-pub enum Start {
-    Word(Word),
-    TypeName,
-    Struct,
-    Enum,
-}
-
-/// A word of a type that is no qualifier. A type's name, a struct and an enum are a whole type each.
-#[derive(Clone, Copy)]
-pub enum TypeWord {
-    Void,
-    Char,
-    Short,
-    Int,
-    Long,
-    Signed,
-    Unsigned,
-    Whole,
-}
-
 /// The specifier that begins with a token of this kind.
 pub fn start_of(kind: Kind) -> Option<Start>
-    ensures { rules.start_of kind ≡ view_start result }
+    ensures { result ≡ rules.start_of kind }
 {
     match kind {
-        Kind::Const => Some(Start::Word(Word::Const)),
-        Kind::Volatile => Some(Start::Word(Word::Volatile)),
-        Kind::Void => Some(Start::Word(Word::Void)),
-        Kind::Char => Some(Start::Word(Word::Char)),
-        Kind::Short => Some(Start::Word(Word::Short)),
-        Kind::Int => Some(Start::Word(Word::Int)),
-        Kind::Long => Some(Start::Word(Word::Long)),
-        Kind::Signed => Some(Start::Word(Word::Signed)),
-        Kind::Unsigned => Some(Start::Word(Word::Unsigned)),
+        Kind::Const => Some(Start::Qualifier(Qual::Const)),
+        Kind::Volatile => Some(Start::Qualifier(Qual::Volatile)),
+        Kind::Void => Some(Start::Keyword(TypeKeyword::Void)),
+        Kind::Char => Some(Start::Keyword(TypeKeyword::Char)),
+        Kind::Short => Some(Start::Keyword(TypeKeyword::Short)),
+        Kind::Int => Some(Start::Keyword(TypeKeyword::Int)),
+        Kind::Long => Some(Start::Keyword(TypeKeyword::Long)),
+        Kind::Signed => Some(Start::Keyword(TypeKeyword::Signed)),
+        Kind::Unsigned => Some(Start::Keyword(TypeKeyword::Unsigned)),
         Kind::TypeName => Some(Start::TypeName),
         Kind::Struct => Some(Start::Struct),
         Kind::Enum => Some(Start::Enum),
@@ -71,63 +35,65 @@ pub fn start_of(kind: Kind) -> Option<Start>
     }
 }
 
-/// The specifier that a keyword is.
-#[tactic(auto, using(c_tree::proofs::ViewLemmas::view_SpecWord_Const, c_tree::proofs::ViewLemmas::view_SpecWord_Volatile, c_tree::proofs::ViewLemmas::view_SpecWord_Void, c_tree::proofs::ViewLemmas::view_SpecWord_Char, c_tree::proofs::ViewLemmas::view_SpecWord_Short, c_tree::proofs::ViewLemmas::view_SpecWord_Int, c_tree::proofs::ViewLemmas::view_SpecWord_Long, c_tree::proofs::ViewLemmas::view_SpecWord_Signed, c_tree::proofs::ViewLemmas::view_SpecWord_Unsigned))]
-pub fn keyword(word: Word) -> SpecWord
-    ensures { view_specifier result ≡ specifier_of word }
+/// The specifier that is this qualifier.
+#[tactic(auto, using(c_tree::proofs::ViewLemmas::view_SpecWord_Const, c_tree::proofs::ViewLemmas::view_SpecWord_Volatile))]
+pub fn qualifier(qual: Qual) -> SpecWord
+    ensures { view_specifier result ≡ rules.qualifier_of qual }
 {
-    match word {
-        Word::Const => SpecWord::Const,
-        Word::Volatile => SpecWord::Volatile,
-        Word::Void => SpecWord::Void,
-        Word::Char => SpecWord::Char,
-        Word::Short => SpecWord::Short,
-        Word::Int => SpecWord::Int,
-        Word::Long => SpecWord::Long,
-        Word::Signed => SpecWord::Signed,
-        Word::Unsigned => SpecWord::Unsigned,
+    match qual {
+        Qual::Const => SpecWord::Const,
+        Qual::Volatile => SpecWord::Volatile,
     }
 }
 
-/// Whether the keyword is no qualifier.
-pub fn is_type_word(word: Word) -> bool
-    ensures { result ≡ spec.is_type_word word }
+/// The specifier that is this keyword.
+#[tactic(auto, using(c_tree::proofs::ViewLemmas::view_SpecWord_Void, c_tree::proofs::ViewLemmas::view_SpecWord_Char, c_tree::proofs::ViewLemmas::view_SpecWord_Short, c_tree::proofs::ViewLemmas::view_SpecWord_Int, c_tree::proofs::ViewLemmas::view_SpecWord_Long, c_tree::proofs::ViewLemmas::view_SpecWord_Signed, c_tree::proofs::ViewLemmas::view_SpecWord_Unsigned))]
+pub fn keyword(word: TypeKeyword) -> SpecWord
+    ensures { view_specifier result ≡ rules.keyword_of word }
 {
     match word {
-        Word::Const | Word::Volatile => false,
-        Word::Void
-        | Word::Char
-        | Word::Short
-        | Word::Int
-        | Word::Long
-        | Word::Signed
-        | Word::Unsigned => true,
+        TypeKeyword::Void => SpecWord::Void,
+        TypeKeyword::Char => SpecWord::Char,
+        TypeKeyword::Short => SpecWord::Short,
+        TypeKeyword::Int => SpecWord::Int,
+        TypeKeyword::Long => SpecWord::Long,
+        TypeKeyword::Signed => SpecWord::Signed,
+        TypeKeyword::Unsigned => SpecWord::Unsigned,
     }
 }
 
 /// Whether a name that has to follow is still not counted behind a specifier.
 pub fn stays(owing: bool, start: Start) -> bool
-    ensures { result ≡ spec.stays owing (view_start (Some start)) }
+    ensures { result ≡ spec.stays owing start }
 {
     match start {
-        Start::Word(Word::Const | Word::Volatile) => owing,
+        Start::Qualifier(_) => owing,
         _ => false,
     }
 }
 
+/// The word of the type that a keyword is.
+fn type_word(word: TypeKeyword) -> TypeWord
+    ensures { result ≡ rules.type_word word }
+{
+    match word {
+        TypeKeyword::Void => TypeWord::Void,
+        TypeKeyword::Char => TypeWord::Char,
+        TypeKeyword::Short => TypeWord::Short,
+        TypeKeyword::Int => TypeWord::Int,
+        TypeKeyword::Long => TypeWord::Long,
+        TypeKeyword::Signed => TypeWord::Signed,
+        TypeKeyword::Unsigned => TypeWord::Unsigned,
+    }
+}
+
 /// The word of the type that a specifier is, if it is no qualifier.
-fn type_word(start: Start) -> Option<TypeWord>
-    ensures { view_some_word result ≡ word_of (view_start (Some start)) }
+fn word_of(start: Start) -> Option<TypeWord>
+    ensures { result ≡ spec.word_of (Some start) }
 {
     match start {
-        Start::Word(Word::Const | Word::Volatile) => None,
-        Start::Word(Word::Void) => Some(TypeWord::Void),
-        Start::Word(Word::Char) => Some(TypeWord::Char),
-        Start::Word(Word::Short) => Some(TypeWord::Short),
-        Start::Word(Word::Int) => Some(TypeWord::Int),
-        Start::Word(Word::Long) => Some(TypeWord::Long),
-        Start::Word(Word::Signed) => Some(TypeWord::Signed),
-        Start::Word(Word::Unsigned) => Some(TypeWord::Unsigned),
+        Start::Qualifier(_) => None,
+        Start::Keyword(word) => Some(type_word(word)),
         Start::TypeName | Start::Struct | Start::Enum => Some(TypeWord::Whole),
     }
 }
@@ -140,12 +106,11 @@ pub struct Words {
 
 impl Model for Words {
     ghost use Rattle.std.specs.Prelude.{List};
-    ghost use Rattle.c_tree.specs.TypeWords.{TypeWord};
-    ghost use Rattle.type_parser.specs.SpecifierWords.{view_words};
+    ghost use Rattle.c_tree.specs.declared.type_word.TypeWord.{TypeWord};
 
     ghost Value = { List TypeWord };
 
-    ghost view = { λ w. view_words w.words };
+    ghost view = { λ w. w.words };
 }
 
 impl Words {
@@ -167,7 +132,7 @@ impl Words {
 
     /// Adds a word, if there is one; the answer is false, and nothing changes, where it may not follow those before it.
     fn add(&mut self, word: Option<TypeWord>) -> Result<bool, AllocError>
-        ensures { IfOk result (λ added. Adds self.old (view_some_word word) added self.new) }
+        ensures { IfOk result (λ added. Adds self.old word added self.new) }
     {
         let Some(word) = word else {
             return Ok(true);
@@ -187,7 +152,7 @@ impl Words {
         let Some(start) = start_of(kind) else {
             return Ok(None);
         };
-        if self.add(type_word(start))? {
+        if self.add(word_of(start))? {
             Ok(Some(start))
         } else {
             Ok(None)
@@ -197,7 +162,7 @@ impl Words {
 
 /// Whether the words name one type.
 fn is_one_type(words: &[TypeWord]) -> bool
-    ensures { result ≡ tree.is_one_type (view_words words.now) }
+    ensures { result ≡ tree.is_one_type words.now }
 {
     is_alone(words) || is_integer_type(words)
 }
@@ -215,7 +180,7 @@ fn is_alone(words: &[TypeWord]) -> bool
 
 /// Whether the words name an integer type.
 fn is_integer_type(words: &[TypeWord]) -> bool
-    ensures { result ≡ tree.is_integer_type (view_words words.now) }
+    ensures { result ≡ tree.is_integer_type words.now }
 {
     are_integer_words(words)
         && are_some(words)
@@ -225,32 +190,22 @@ fn is_integer_type(words: &[TypeWord]) -> bool
 }
 
 /// Whether each word is one of an integer type.
-#[tactic(auto, using(crate::proofs::SpecifierWordLemmas::integer_words))]
 fn are_integer_words(words: &[TypeWord]) -> bool
-    ensures { result ≡ list_all tree.is_integer_word (view_words words.now) }
-{
-    let found = all_integer(words);
-    found
-}
-
-/// The same, told of the words as they are kept here.
-fn all_integer(words: &[TypeWord]) -> bool
-    ensures { result ≡ list_all (λ word. tree.is_integer_word (view_word word)) words.now }
+    ensures { result ≡ list_all tree.is_integer_word words.now }
 {
     words.iter().all(|word| is_integer_word(*word))
 }
 
 /// Whether there is a word.
-#[tactic(auto, using(crate::proofs::SpecifierWordLemmas::length_words))]
 fn are_some(words: &[TypeWord]) -> bool
-    ensures { result ≡ nat_le 1 (length (view_words words.now)) }
+    ensures { result ≡ nat_le 1 (length words.now) }
 {
     1 <= words.len()
 }
 
 /// Whether at most one of the words is a sign.
 fn have_one_sign(words: &[TypeWord]) -> bool
-    ensures { result ≡ nat_le (count_by tree.is_sign (view_words words.now)) 1 }
+    ensures { result ≡ nat_le (count_by tree.is_sign words.now) 1 }
 {
     let signs = words.iter().filter(|word| is_sign(**word)).count();
     signs <= 1
@@ -258,7 +213,7 @@ fn have_one_sign(words: &[TypeWord]) -> bool
 
 /// Whether `int` is among the words once at most.
 fn have_one_int(words: &[TypeWord]) -> bool
-    ensures { result ≡ nat_le (count_by tree.is_int (view_words words.now)) 1 }
+    ensures { result ≡ nat_le (count_by tree.is_int words.now) 1 }
 {
     let ints = words.iter().filter(|word| is_int(**word)).count();
     ints <= 1
@@ -266,7 +221,7 @@ fn have_one_int(words: &[TypeWord]) -> bool
 
 /// Whether one `short` or at most two `long` are among the words.
 fn have_one_length(words: &[TypeWord]) -> bool
-    ensures { result ≡ nat_le (2 * count_by tree.is_short (view_words words.now) + count_by tree.is_long (view_words words.now)) 2 }
+    ensures { result ≡ nat_le (2 * count_by tree.is_short words.now + count_by tree.is_long words.now) 2 }
 {
     let shorts = shorts(words);
     let longs = longs(words);
@@ -275,14 +230,14 @@ fn have_one_length(words: &[TypeWord]) -> bool
 
 /// How often `short` is among the words.
 fn shorts(words: &[TypeWord]) -> usize
-    ensures { result ≡ count_by tree.is_short (view_words words.now) }
+    ensures { result ≡ count_by tree.is_short words.now }
 {
     words.iter().filter(|word| is_short(**word)).count()
 }
 
 /// How often `long` is among the words.
 fn longs(words: &[TypeWord]) -> usize
-    ensures value { result ≡ count_by tree.is_long (view_words words.now) }
+    ensures value { result ≡ count_by tree.is_long words.now }
     ensures small { result ≤ length words.now }
 {
     words.iter().filter(|word| is_long(**word)).count()
@@ -290,35 +245,35 @@ fn longs(words: &[TypeWord]) -> usize
 
 /// Whether the word may stand in an integer type.
 fn is_integer_word(word: TypeWord) -> bool
-    ensures { result ≡ tree.is_integer_word (view_word word) }
+    ensures { result ≡ tree.is_integer_word word }
 {
     !matches!(word, TypeWord::Void | TypeWord::Char | TypeWord::Whole)
 }
 
 /// Whether the word is `signed` or `unsigned`.
 fn is_sign(word: TypeWord) -> bool
-    ensures { result ≡ tree.is_sign (view_word word) }
+    ensures { result ≡ tree.is_sign word }
 {
     matches!(word, TypeWord::Signed | TypeWord::Unsigned)
 }
 
 /// Whether the word is `int`.
 fn is_int(word: TypeWord) -> bool
-    ensures { result ≡ tree.is_int (view_word word) }
+    ensures { result ≡ tree.is_int word }
 {
     matches!(word, TypeWord::Int)
 }
 
 /// Whether the word is `short`.
 fn is_short(word: TypeWord) -> bool
-    ensures { result ≡ tree.is_short (view_word word) }
+    ensures { result ≡ tree.is_short word }
 {
     matches!(word, TypeWord::Short)
 }
 
 /// Whether the word is `long`.
 fn is_long(word: TypeWord) -> bool
-    ensures { result ≡ tree.is_long (view_word word) }
+    ensures { result ≡ tree.is_long word }
 {
     matches!(word, TypeWord::Long)
 }

@@ -1,5 +1,5 @@
 -- What the rules of expressions count.
-use Rattle.std.proofs.Common.{◌≡◌, ℕ, ◌+◌, max, refl, ap, arith, length-append, ◌&&◌, nat_le}
+use Rattle.std.proofs.Common.{◌≡◌, ℕ, ◌+◌, max, refl, ap, arith, length-append, ◌&&◌, nat_le, Option, Some, None}
 use Rattle.c_tree.specs.Tree.{Expression, size_of, expressions}
 use Rattle.c_tree.specs.Nodes.{Node}
 use Rattle.c_tree.specs.Marks.{Tokens}
@@ -9,7 +9,11 @@ use Rattle.c_grammar.specs.declared.kind.Kind.TheVariants as k
 use Rattle.c_grammar.specs.Body.{done}
 use Rattle.c_grammar.specs.Body as body
 use Rattle.c_grammar.specs.Gauge.{Meter}
-use Rattle.c_grammar.specs.Rules.{NameEnvironment, First, no_operand, a_word, a_number, a_character, a_text, an_open, a_sizeof, a_step, a_unary, first_of_operand, begins_type, opened_by, sized_by, sizeof_by, prefix_by, texts_by, arguments_by, more_arguments_by, Infix, no_infix, a_comma, an_assign, a_question, an_operator, an_index, a_call, a_dot, an_arrow, a_step_behind, an_expression, a_whole, a_prefix, a_rest, an_opened, more_texts, all_arguments, more_arguments, longer, goes_on, infix_of}
+use Rattle.c_grammar.specs.Rules.{NameEnvironment, first_of_operand, begins_type, opened_by, sized_by, sizeof_by, prefix_by, texts_by, arguments_by, more_arguments_by, an_expression, a_whole, a_prefix, a_rest, an_opened, more_texts, all_arguments, more_arguments, longer, goes_on, infix_of}
+use Rattle.c_grammar.specs.declared.infix.First.{First}
+use Rattle.c_grammar.specs.declared.infix.Infix.{Infix}
+use Rattle.c_grammar.specs.declared.infix.First.TheVariants as fi
+use Rattle.c_grammar.specs.declared.infix.Infix.TheVariants as ix
 use Rattle.c_grammar.proofs.Conditions.{go_done, go_stop, go_look, go_call, go_scope, go_if}
 use Rattle.c_grammar.proofs.Costs.Counting.{Costs}
 use Rattle.c_grammar.proofs.Costs.Steps.{Counts, Cost, pay, lift, skips, wants, a_name_taken}
@@ -23,25 +27,25 @@ expression-cost t d l o ts m = go_scope (λ x us n p. let a = p (omega arith) in
 pub whole-cost : (t : NameEnvironment) (d l o : ℕ) → Cost (a_whole t d l o)
 whole-cost t d l o ts m = go_call (λ x us n p. go_call (λ y vs q h. go_done (λ peak. let a = p peak in let b = h a.1 in (omega arith, b.1))))
 
-longer-by : (t : NameEnvironment) (d l : ℕ) (x : Expression) (i : Infix) (ts : Tokens) (m : Meter) → Counts (longer t d l x i) (Costs (a_rest t d l x) ts m) ts m
-longer-by t d l x no_infix ts m = go_done (λ peak. (refl, peak))
-longer-by t d l x a_comma ts m =
+longer-by : (t : NameEnvironment) (d l : ℕ) (x : Expression) (i : Option Infix) (ts : Tokens) (m : Meter) → Counts (longer t d l x i) (Costs (a_rest t d l x) ts m) ts m
+longer-by t d l x None ts m = go_done (λ peak. (refl, peak))
+longer-by t d l x (Some ix.Comma) ts m =
     lift (pay (skips (λ _ us. go_call (λ y vs n p. go_call (λ z ws q h. go_done (λ peak. let deep = expression_deep y in let b = h (omega arith) in (omega (arith, length-append {A = Node}), b.1)))))))
-longer-by t d l x (an_assign o) ts m =
+longer-by t d l x (Some (ix.Assign o)) ts m =
     lift (pay (skips (λ _ us. go_call (λ y vs n p. go_call (λ z ws q h. go_done (λ peak. let deep = expression_deep y in let b = h (omega arith) in (omega (arith, length-append {A = Node}), b.1)))))))
-longer-by t d l x a_question ts m =
+longer-by t d l x (Some ix.Question) ts m =
     lift (pay (skips (λ _ us. go_call (λ y vs n p. wants k.Colon (λ ws. go_call (λ w vs n r. go_call (λ z ws q h. go_done (λ peak.
     let deep = expression_deep y in let deep_too = expression_deep w in let b = h (omega arith) in (omega (arith, length-append {A = Node}), b.1)))))))))
-longer-by t d l x (an_operator o) ts m =
+longer-by t d l x (Some (ix.Operator o)) ts m =
     lift (pay (skips (λ _ us. go_call (λ y vs n p. go_call (λ z ws q h. go_done (λ peak. let deep = expression_deep y in let b = h (omega arith) in (omega (arith, length-append {A = Node}), b.1)))))))
-longer-by t d l x an_index ts m =
+longer-by t d l x (Some ix.Index) ts m =
     lift (pay (skips (λ _ us. go_call (λ y vs n p. wants k.CloseBracket (λ ws. go_call (λ z ws q h. go_done (λ peak.
     let deep = expression_deep y in let b = h (omega arith) in (omega (arith, length-append {A = Node}), b.1))))))))
-longer-by t d l x a_call ts m =
+longer-by t d l x (Some ix.Call) ts m =
     lift (pay (skips (λ _ us. go_call (λ xs vs n p. go_call (λ z ws q h. go_done (λ peak. let a = p (omega arith) in let b = h (omega arith) in (omega (arith, length-append {A = Node}), b.1)))))))
-longer-by t d l x a_dot ts m = lift (pay (skips (λ _ us. a_name_taken (λ n vs. go_call (λ z ws q h. go_done (λ peak. let b = h (omega arith) in (omega arith, b.1)))))))
-longer-by t d l x an_arrow ts m = lift (pay (skips (λ _ us. a_name_taken (λ n vs. go_call (λ z ws q h. go_done (λ peak. let b = h (omega arith) in (omega arith, b.1)))))))
-longer-by t d l x (a_step_behind o) ts m = lift (pay (skips (λ _ us. go_call (λ z ws q h. go_done (λ peak. let b = h (omega arith) in (omega arith, b.1))))))
+longer-by t d l x (Some ix.Dot) ts m = lift (pay (skips (λ _ us. a_name_taken (λ n vs. go_call (λ z ws q h. go_done (λ peak. let b = h (omega arith) in (omega arith, b.1)))))))
+longer-by t d l x (Some ix.Arrow) ts m = lift (pay (skips (λ _ us. a_name_taken (λ n vs. go_call (λ z ws q h. go_done (λ peak. let b = h (omega arith) in (omega arith, b.1)))))))
+longer-by t d l x (Some (ix.Step o)) ts m = lift (pay (skips (λ _ us. go_call (λ z ws q h. go_done (λ peak. let b = h (omega arith) in (omega arith, b.1))))))
 
 -- how an expression goes on
 pub rest-cost : (t : NameEnvironment) (d l : ℕ) (x : Expression) → Cost (a_rest t d l x)
@@ -69,16 +73,16 @@ sizeof-by : (t : NameEnvironment) (d l o : ℕ) (e : Kind) (ts us : Tokens) (m n
 sizeof-by t d l o k.OpenParen ts us m n made peak = skips (λ _ vs. go_look (λ e is. sized-by t d l o e ts vs m n made peak))
 sizeof-by t d l o _ ts us m n made peak = operand-by t d l o ts us m n made peak
 
-prefix-by : (t : NameEnvironment) (d l o : ℕ) (i : First) (ts : Tokens) (m : Meter) → Counts (prefix_by t d l o i) (Costs (a_prefix t d l o) ts m) ts m
-prefix-by t d l o no_operand ts m = go_stop
-prefix-by t d l o a_word ts m = pay (skips (λ n us. go_done (λ before. (omega arith, omega arith))))
-prefix-by t d l o a_number ts m = pay (skips (λ n us. go_done (λ before. (omega arith, omega arith))))
-prefix-by t d l o a_character ts m = pay (skips (λ n us. go_done (λ before. (omega arith, omega arith))))
-prefix-by t d l o a_text ts m = pay (skips (λ n us. go_call (λ ns vs p q. go_done (λ before. let made = ap (λ (z : Meter). z.made) q in let peak = ap (λ (z : Meter). z.peak) q in (omega arith, omega arith)))))
-prefix-by t d l o an_open ts m = pay (skips (λ _ us. go_look (λ e is. opened-by t d l o e ts us m _ refl (λ before. omega arith))))
-prefix-by t d l o a_sizeof ts m = pay (skips (λ _ us. go_look (λ e is. sizeof-by t d l o e ts us m _ refl (λ before. omega arith))))
-prefix-by t d l o (a_step s) ts m = pay (skips (λ _ us. go_call (λ x vs p q. go_done (λ before. let deep = expression_deep x in (omega arith, omega arith)))))
-prefix-by t d l o (a_unary s) ts m = pay (skips (λ _ us. go_call (λ x vs p q. go_done (λ before. let deep = expression_deep x in (omega arith, omega arith)))))
+prefix-by : (t : NameEnvironment) (d l o : ℕ) (i : Option First) (ts : Tokens) (m : Meter) → Counts (prefix_by t d l o i) (Costs (a_prefix t d l o) ts m) ts m
+prefix-by t d l o None ts m = go_stop
+prefix-by t d l o (Some fi.Word) ts m = pay (skips (λ n us. go_done (λ before. (omega arith, omega arith))))
+prefix-by t d l o (Some fi.Number) ts m = pay (skips (λ n us. go_done (λ before. (omega arith, omega arith))))
+prefix-by t d l o (Some fi.Character) ts m = pay (skips (λ n us. go_done (λ before. (omega arith, omega arith))))
+prefix-by t d l o (Some fi.Text) ts m = pay (skips (λ n us. go_call (λ ns vs p q. go_done (λ before. let made = ap (λ (z : Meter). z.made) q in let peak = ap (λ (z : Meter). z.peak) q in (omega arith, omega arith)))))
+prefix-by t d l o (Some fi.Open) ts m = pay (skips (λ _ us. go_look (λ e is. opened-by t d l o e ts us m _ refl (λ before. omega arith))))
+prefix-by t d l o (Some fi.Sizeof) ts m = pay (skips (λ _ us. go_look (λ e is. sizeof-by t d l o e ts us m _ refl (λ before. omega arith))))
+prefix-by t d l o (Some (fi.Step s)) ts m = pay (skips (λ _ us. go_call (λ x vs p q. go_done (λ before. let deep = expression_deep x in (omega arith, omega arith)))))
+prefix-by t d l o (Some (fi.Unary s)) ts m = pay (skips (λ _ us. go_call (λ x vs p q. go_done (λ before. let deep = expression_deep x in (omega arith, omega arith)))))
 
 -- a first operand
 pub prefix-cost : (t : NameEnvironment) (d l o : ℕ) → Cost (a_prefix t d l o)

@@ -2,7 +2,9 @@
 -- and whether the first word of a type counts the name that has to follow.
 use Rattle.std.proofs.Common.{◌≡◌, ℕ, suc, ◌+◌, ◌≤◌, max, Bool, true, false, cond, List, [], ◌∷◌, length, refl, sym, ap, ◌∙◌, arith, length-append}
 use Rattle.std.specs.List.{list_any, list_all}
-use Rattle.c_tree.specs.TypeWords.{TypeWord, of_void, of_char, of_short, of_int, of_long, of_signed, of_unsigned, of_whole, is_integer_word, is_integer_type, is_one_type, words_of, type_words, has_tag}
+use Rattle.c_tree.specs.TypeWords.{is_integer_word, is_integer_type, is_one_type, words_of, type_words, has_tag}
+use Rattle.c_tree.specs.declared.type_word.TypeWord.{TypeWord}
+use Rattle.c_tree.specs.declared.type_word.TypeWord.TheVariants as tw
 use Rattle.c_tree.specs.Tree.{Specifiers, no_specifiers, specifiers, Specifier, const_word, volatile_word, void_word, char_word, short_word, int_word, long_word, signed_word, unsigned_word, type_name, struct_tag, struct_of, enum_tag, enum_of}
 use Rattle.c_tree.specs.Tree.{Expression, comma, assign, choose, binary, cast, unary, before, size_of, size_of_type, index, call, dot, arrow, after, name, integer, character, text, paren, Initializer, single, listed, StatementTree, block, declaration, expression_statement, if_statement, if_else_statement, while_statement, do_statement, for_statement, switch_statement, case_label, default_label, named_label, break_statement, continue_statement, return_statement, goto_statement}
 use Rattle.c_tree.specs.Tree.{NamedTree, DeclarationTree}
@@ -85,34 +87,34 @@ for_deep d p q r s u c x y z e f g h deep =
 -- ---- the name that the first word of a type counts
 
 abbrev is_whole : TypeWord → Bool
-is_whole of_whole = true
+is_whole tw.Whole = true
 is_whole _ = false
 
 whole_is_no_integer : (us : List TypeWord) → list_any is_whole us ≡ true → list_all is_integer_word us ≡ false
 whole_is_no_integer [] h = absurd (cc h)
-whole_is_no_integer (of_void ∷ us) h = refl
-whole_is_no_integer (of_char ∷ us) h = refl
-whole_is_no_integer (of_short ∷ us) h = whole_is_no_integer us h
-whole_is_no_integer (of_int ∷ us) h = whole_is_no_integer us h
-whole_is_no_integer (of_long ∷ us) h = whole_is_no_integer us h
-whole_is_no_integer (of_signed ∷ us) h = whole_is_no_integer us h
-whole_is_no_integer (of_unsigned ∷ us) h = whole_is_no_integer us h
-whole_is_no_integer (of_whole ∷ us) h = refl
+whole_is_no_integer (tw.Void ∷ us) h = refl
+whole_is_no_integer (tw.Char ∷ us) h = refl
+whole_is_no_integer (tw.Short ∷ us) h = whole_is_no_integer us h
+whole_is_no_integer (tw.Int ∷ us) h = whole_is_no_integer us h
+whole_is_no_integer (tw.Long ∷ us) h = whole_is_no_integer us h
+whole_is_no_integer (tw.Signed ∷ us) h = whole_is_no_integer us h
+whole_is_no_integer (tw.Unsigned ∷ us) h = whole_is_no_integer us h
+whole_is_no_integer (tw.Whole ∷ us) h = refl
 
 no_integer : (us : List TypeWord) → list_all is_integer_word us ≡ false → is_integer_type us ≡ false
 no_integer us h = rw h refl
 
 behind_word : (w : TypeWord) (us : List TypeWord) → list_all is_integer_word us ≡ false → list_all is_integer_word (w ∷ us) ≡ false
-behind_word of_void us h = refl
-behind_word of_char us h = refl
-behind_word of_whole us h = refl
+behind_word tw.Void us h = refl
+behind_word tw.Char us h = refl
+behind_word tw.Whole us h = refl
 behind_word _ us h = h
 
 -- a word and a whole type behind it name no type
 word_and_whole : (w : TypeWord) (us : List TypeWord) → list_any is_whole us ≡ true → is_one_type (w ∷ us) ≡ false
 word_and_whole w [] h = absurd (cc h)
-word_and_whole of_signed (of_char ∷ []) h = absurd (cc h)
-word_and_whole of_unsigned (of_char ∷ []) h = absurd (cc h)
+word_and_whole tw.Signed (tw.Char ∷ []) h = absurd (cc h)
+word_and_whole tw.Unsigned (tw.Char ∷ []) h = absurd (cc h)
 word_and_whole w us h = no_integer (w ∷ us) (behind_word w us (whole_is_no_integer us h))
 
 tag_is_whole : (xs : Specifiers) → has_tag xs ≡ true → list_any is_whole (type_words xs) ≡ true
@@ -137,14 +139,14 @@ pub first_counted : (xs : Specifiers) (b : Bool) → has_tag xs ≡ b → is_one
 first_counted no_specifiers b tag one = absurd (cc one)
 first_counted (specifiers const_word xs) b tag one = first_counted xs b tag one
 first_counted (specifiers volatile_word xs) b tag one = first_counted xs b tag one
-first_counted (specifiers void_word xs) b tag one = word_counts of_void xs b tag one
-first_counted (specifiers char_word xs) b tag one = word_counts of_char xs b tag one
-first_counted (specifiers short_word xs) b tag one = word_counts of_short xs b tag one
-first_counted (specifiers int_word xs) b tag one = word_counts of_int xs b tag one
-first_counted (specifiers long_word xs) b tag one = word_counts of_long xs b tag one
-first_counted (specifiers signed_word xs) b tag one = word_counts of_signed xs b tag one
-first_counted (specifiers unsigned_word xs) b tag one = word_counts of_unsigned xs b tag one
-first_counted (specifiers (type_name n) xs) b tag one = word_counts of_whole xs b tag one
+first_counted (specifiers void_word xs) b tag one = word_counts tw.Void xs b tag one
+first_counted (specifiers char_word xs) b tag one = word_counts tw.Char xs b tag one
+first_counted (specifiers short_word xs) b tag one = word_counts tw.Short xs b tag one
+first_counted (specifiers int_word xs) b tag one = word_counts tw.Int xs b tag one
+first_counted (specifiers long_word xs) b tag one = word_counts tw.Long xs b tag one
+first_counted (specifiers signed_word xs) b tag one = word_counts tw.Signed xs b tag one
+first_counted (specifiers unsigned_word xs) b tag one = word_counts tw.Unsigned xs b tag one
+first_counted (specifiers (type_name n) xs) b tag one = word_counts tw.Whole xs b tag one
 first_counted (specifiers (struct_tag n) xs) true tag one = refl
 first_counted (specifiers (struct_of n ms) xs) true tag one = refl
 first_counted (specifiers (enum_tag n) xs) true tag one = refl
@@ -160,7 +162,7 @@ none_counts true = refl
 none_counts false = refl
 
 -- a struct or an enum counts no name, and is a whole type
-pub tag_counts : (b : Bool) (x : Specifier) (xs : Specifiers) → has_tag (specifiers x no_specifiers) ≡ true → (first_counts b (specifiers x xs) ≡ 0) × (words_of x ≡ of_whole ∷ [])
+pub tag_counts : (b : Bool) (x : Specifier) (xs : Specifiers) → has_tag (specifiers x no_specifiers) ≡ true → (first_counts b (specifiers x xs) ≡ 0) × (words_of x ≡ tw.Whole ∷ [])
 tag_counts true (struct_tag n) xs h = (refl, refl)
 tag_counts true (struct_of n ms) xs h = (refl, refl)
 tag_counts true (enum_tag n) xs h = (refl, refl)

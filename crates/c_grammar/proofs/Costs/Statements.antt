@@ -4,7 +4,7 @@ use Rattle.c_tree.specs.Tree.{Name, Expression, name, ForStartTree, StatementTre
 use Rattle.c_tree.specs.Nodes.{Node, nodes_start, nodes_optional, nodes_expression, nodes_statement}
 use Rattle.c_tree.specs.Depth.{depth_expression, depth_statement}
 use Rattle.c_tree.specs.Marks.{Tokens}
-use Rattle.c_tree.specs.Shape.{Place}
+use Rattle.c_tree.specs.Shape.{Context}
 use Rattle.c_grammar.specs.declared.kind.Kind.{Kind}
 use Rattle.c_grammar.specs.declared.kind.Kind.TheVariants as k
 use Rattle.c_grammar.specs.Kind.{same_kind}
@@ -30,31 +30,31 @@ start-cost t d ts m = go_look (λ e is. go_if {b = begins_declaration e}
     (λ no. go_call (λ x us n p. go_done p)))
 
 -- behind a branch of an if, whose condition and branch are counted
-else-by : (t : NameEnvironment) (d : ℕ) (p : Place) (o : ℕ) (x : Expression) (y : StatementTree) (e : Kind) (ts us : Tokens) (m n : Meter) →
+else-by : (t : NameEnvironment) (d : ℕ) (p : Context) (o : ℕ) (x : Expression) (y : StatementTree) (e : Kind) (ts us : Tokens) (m n : Meter) →
     suc n.made ≡ m.made + (o + suc (length (nodes_expression x) + length (nodes_statement y))) → n.peak ≡ max m.peak (d + (1 + max (depth_expression x) (depth_statement y))) →
     Counts (else_by t d p x y e) (Costs (a_statement t d p o) ts m) us n
 else-by t d p o x y k.Else ts us m n made peak = pay (skips (λ _ vs. go_call (λ z ws q h. go_done (
     let a = length-append (nodes_expression x) (nodes_statement y ++ nodes_statement z) in let b = length-append (nodes_statement y) (nodes_statement z) in let deep = statement_deep z in (omega arith, omega arith)))))
 else-by t d p o x y _ ts us m n made peak = go_done (let a = length-append (nodes_expression x) (nodes_statement y) in (omega arith, peak))
 
-expressed-by : (t : NameEnvironment) (d : ℕ) (p : Place) (o : ℕ) (ts : Tokens) (m : Meter) → Counts (expressed t d o) (Costs (a_statement t d p o) ts m) ts m
+expressed-by : (t : NameEnvironment) (d : ℕ) (p : Context) (o : ℕ) (ts : Tokens) (m : Meter) → Counts (expressed t d o) (Costs (a_statement t d p o) ts m) ts m
 expressed-by t d p o ts m = go_call (λ x us n q. wants k.Semicolon (λ vs. go_done (omega arith, omega arith)))
 
-labelled-rest : (t : NameEnvironment) (d : ℕ) (p : Place) (o : ℕ) (a : Name) (ts us : Tokens) (m n : Meter) → n.made ≡ m.made + o → n.peak ≡ max m.peak (d + 1) →
+labelled-rest : (t : NameEnvironment) (d : ℕ) (p : Context) (o : ℕ) (a : Name) (ts us : Tokens) (m n : Meter) → n.made ≡ m.made + o → n.peak ≡ max m.peak (d + 1) →
     Counts (body.spend 1 (d + 2) (body.scope (d + 2) (a_rest t (d + 1) 1 (name a)) (λ x. body.look [] (λ j. cond (same_kind j k.Semicolon) (body.take (λ b. done (expression_statement (Some x)))) body.stop)))) (Costs (a_statement t d p o) ts m) us n
 labelled-rest t d p o a ts us m n made peak = pay (go_scope (λ x vs q h. wants k.Semicolon (λ ws. go_done (let b = h (omega arith) in let deep = expression_deep x in (omega arith, omega arith)))))
 
-labelled-else : (t : NameEnvironment) (d : ℕ) (p : Place) (o : ℕ) (a : Name) (e : Kind) (ts us : Tokens) (m n : Meter) → n.made ≡ m.made + o → n.peak ≡ max m.peak (d + 1) →
+labelled-else : (t : NameEnvironment) (d : ℕ) (p : Context) (o : ℕ) (a : Name) (e : Kind) (ts us : Tokens) (m n : Meter) → n.made ≡ m.made + o → n.peak ≡ max m.peak (d + 1) →
     Counts (cond (follows_name e) (body.spend 1 (d + 2) (body.scope (d + 2) (a_rest t (d + 1) 1 (name a)) (λ x. body.look [] (λ j. cond (same_kind j k.Semicolon) (body.take (λ b. done (expression_statement (Some x)))) body.stop)))) body.stop) (Costs (a_statement t d p o) ts m) us n
 labelled-else t d p o a e ts us m n made peak = go_if {b = follows_name e} (λ yes. labelled-rest t d p o a ts us m n made peak) (λ no. go_stop)
 
-labelled-by : (t : NameEnvironment) (d : ℕ) (p : Place) (o : ℕ) (a : Name) (e : Kind) (ts us : Tokens) (m n : Meter) → n.made ≡ m.made + o → n.peak ≡ max m.peak (d + 1) →
+labelled-by : (t : NameEnvironment) (d : ℕ) (p : Context) (o : ℕ) (a : Name) (e : Kind) (ts us : Tokens) (m n : Meter) → n.made ≡ m.made + o → n.peak ≡ max m.peak (d + 1) →
     Counts (labelled_by t d a e) (Costs (a_statement t d p o) ts m) us n
 labelled-by t d p o a k.Colon ts us m n made peak = skips (λ _ vs. go_done (omega arith, omega arith))
 labelled-by t d p o a e ts us m n made peak = labelled-else t d p o a e ts us m n made peak
 
 -- a declaration or an expression
-statement-else : (t : NameEnvironment) (d : ℕ) (p : Place) (o : ℕ) (e : Kind) (ts : Tokens) (m : Meter) →
+statement-else : (t : NameEnvironment) (d : ℕ) (p : Context) (o : ℕ) (e : Kind) (ts : Tokens) (m : Meter) →
     Counts (cond (begins_declaration e) (cond p.in_block (body.spend o (d + 1) (body.call (a_declaration t (d + 1)) (λ x. done (declaration x)))) body.stop) (expressed t d o)) (Costs (a_statement t d p o) ts m) ts m
 statement-else t d p o e ts m = go_if {b = begins_declaration e}
     (λ yes. go_if {b = p.in_block} (λ inside. pay (go_call (λ x us n q. go_done (let a = q (omega arith) in (omega arith, omega arith))))) (λ out. go_stop))
@@ -64,7 +64,7 @@ for_size : (c : ForStartTree) (x y : Option Expression) (z : StatementTree) →
     length (nodes_statement (for_statement c x y z)) ≡ suc (length (nodes_start c) + (length (nodes_optional x) + (length (nodes_optional y) + length (nodes_statement z))))
 for_size c x y z = simp length-append
 
-statement-by : (t : NameEnvironment) (d : ℕ) (p : Place) (o : ℕ) (e : Kind) (ts : Tokens) (m : Meter) → Counts (statement_by t d p o e) (Costs (a_statement t d p o) ts m) ts m
+statement-by : (t : NameEnvironment) (d : ℕ) (p : Context) (o : ℕ) (e : Kind) (ts : Tokens) (m : Meter) → Counts (statement_by t d p o e) (Costs (a_statement t d p o) ts m) ts m
 statement-by t d p o k.OpenBrace ts m = pay (skips (λ _ us. go_call (λ ss vs n h. go_done (let a = h (omega arith) in (omega arith, omega arith)))))
 statement-by t d p o k.Semicolon ts m = pay (skips (λ _ us. go_done (omega arith, omega arith)))
 statement-by t d p o k.If ts m = pay (skips (λ _ us. wants k.OpenParen (λ vs. go_call (λ x ws n q. wants k.CloseParen (λ xs. go_call (λ y ys z r. go_look (λ e is.
@@ -89,16 +89,16 @@ statement-by t d p o k.Name ts m = go_if {b = p.in_block}
 statement-by t d p o e ts m = statement-else t d p o e ts m
 
 -- a statement
-pub statement-cost : (t : NameEnvironment) (d : ℕ) (p : Place) (o : ℕ) → Cost (a_statement t d p o)
+pub statement-cost : (t : NameEnvironment) (d : ℕ) (p : Context) (o : ℕ) → Cost (a_statement t d p o)
 statement-cost t d p o ts m = go_look (λ e is. statement-by t d p o e ts m)
 
-first-statement : (t : NameEnvironment) (d : ℕ) (p : Place) (ts : Tokens) (m : Meter) → Counts (body.strict (a_statement t d p 1) (λ x. body.call (all_statements t d p) (λ xs. done (statements x xs)))) (Costs (all_statements t d p) ts m) ts m
+first-statement : (t : NameEnvironment) (d : ℕ) (p : Context) (ts : Tokens) (m : Meter) → Counts (body.strict (a_statement t d p 1) (λ x. body.call (all_statements t d p) (λ xs. done (statements x xs)))) (Costs (all_statements t d p) ts m) ts m
 first-statement t d p ts m = go_strict (λ x us n q. go_call (λ xs vs z h. go_done (λ before. let a = h (omega arith) in (omega (arith, length-append {A = Node}), omega arith))))
 
-statements-by : (t : NameEnvironment) (d : ℕ) (p : Place) (e : Kind) (ts : Tokens) (m : Meter) → Counts (statements_by t d p e) (Costs (all_statements t d p) ts m) ts m
+statements-by : (t : NameEnvironment) (d : ℕ) (p : Context) (e : Kind) (ts : Tokens) (m : Meter) → Counts (statements_by t d p e) (Costs (all_statements t d p) ts m) ts m
 statements-by t d p k.CloseBrace ts m = skips (λ _ us. go_done (λ before. (omega arith, omega arith)))
 statements-by t d p _ ts m = first-statement t d p ts m
 
 -- the statements of a block
-pub statements-cost : (t : NameEnvironment) (d : ℕ) (p : Place) → Cost (all_statements t d p)
+pub statements-cost : (t : NameEnvironment) (d : ℕ) (p : Context) → Cost (all_statements t d p)
 statements-cost t d p ts m = go_look (λ e is. statements-by t d p e ts m)

@@ -1,6 +1,8 @@
 -- What the rules of types count: specifiers, with the members of structs and the enumerators of enums.
 use Rattle.std.proofs.Common.{◌≡◌, ℕ, ◌+◌, Bool, true, false, List, [], ◌∷◌, ◌++◌, length, refl, sym, ap, ◌∙◌, append_assoc, append-nil, arith, length-append, cond, Option, Some, None}
-use Rattle.c_tree.specs.TypeWords.{TypeWord, of_whole, is_one_type, words_of, type_words}
+use Rattle.c_tree.specs.TypeWords.{is_one_type, words_of, type_words}
+use Rattle.c_tree.specs.declared.type_word.TypeWord.{TypeWord}
+use Rattle.c_tree.specs.declared.type_word.TypeWord.TheVariants as tw
 use Rattle.c_tree.specs.Tree.{Name, Specifiers, specifiers, Specifier, const_word, volatile_word, type_name, struct_of, enum_of, enumerator}
 use Rattle.c_tree.specs.Nodes.{Node, nodes_specifier}
 use Rattle.c_tree.specs.Depth.{depth_specifier}
@@ -10,7 +12,9 @@ use Rattle.c_grammar.specs.declared.kind.Kind.TheVariants as k
 use Rattle.c_grammar.specs.Body.{done}
 use Rattle.c_grammar.specs.Body as body
 use Rattle.c_grammar.specs.Gauge.{Meter}
-use Rattle.c_grammar.specs.Rules.{NameEnvironment, Reads, Start, no_specifier, a_qualifier, a_type_word, a_type_name, a_struct_word, an_enum_word, start_of, begins_type, ends_type, with_word, specifiers_by, struct_body_by, struct_by, more_members_by, more_declarators_by, enum_body_by, enum_by, enumerator_by, next_enumerator_by, more_enumerators_by, a_type, all_specifiers, a_struct, all_members, more_members, all_declarators, more_declarators, an_enum, all_enumerators, more_enumerators}
+use Rattle.c_grammar.specs.Rules.{NameEnvironment, Reads, start_of, begins_type, ends_type, with_word, specifiers_by, struct_body_by, struct_by, more_members_by, more_declarators_by, enum_body_by, enum_by, enumerator_by, next_enumerator_by, more_enumerators_by, a_type, all_specifiers, a_struct, all_members, more_members, all_declarators, more_declarators, an_enum, all_enumerators, more_enumerators, qualifier_of, keyword_of, type_word}
+use Rattle.c_grammar.specs.declared.start.Start.{Start}
+use Rattle.c_grammar.specs.declared.start.Start.TheVariants as sp
 use Rattle.c_grammar.proofs.Conditions.{go_done, go_stop, go_look, go_call, go_if}
 use Rattle.c_grammar.proofs.Costs.Counting.{Costs, first_count, first_counts}
 use Rattle.c_grammar.proofs.Costs.Steps.{Counts, Cost, pay, skips, wants, a_name_taken}
@@ -21,9 +25,13 @@ pub type-cost : (t : NameEnvironment) (d : ℕ) → Cost (a_type t d)
 type-cost t d ts m = go_call (λ ws us n p. go_call (λ x vs q h. go_done (λ before. let a = p before in let b = h (omega arith) in (omega (arith, length-append {A = Node}), omega arith))))
 
 -- a specifier that is one word has no nodes; one that is no qualifier counts a name that has to follow
-abbrev Simple : Start → Type 0
-Simple (a_qualifier x) = (length (nodes_specifier x) ≡ 0) × (depth_specifier x ≡ 0) × (words_of x ≡ []) × ((b : Bool) (xs : Specifiers) → first_counts b (specifiers x xs) ≡ first_counts b xs)
-Simple (a_type_word w x) = (length (nodes_specifier x) ≡ 0) × (depth_specifier x ≡ 0) × (words_of x ≡ w ∷ []) × ((xs : Specifiers) → first_count (specifiers x xs) ≡ 1)
+abbrev Simple : Option Start → Type 0
+Simple (Some (sp.Qualifier x)) =
+    let y = qualifier_of x in
+    (length (nodes_specifier y) ≡ 0) × (depth_specifier y ≡ 0) × (words_of y ≡ []) × ((b : Bool) (xs : Specifiers) → first_counts b (specifiers y xs) ≡ first_counts b xs)
+Simple (Some (sp.Keyword x)) =
+    let y = keyword_of x in
+    (length (nodes_specifier y) ≡ 0) × (depth_specifier y ≡ 0) × (words_of y ≡ type_word x ∷ []) × ((xs : Specifiers) → first_count (specifiers y xs) ≡ 1)
 Simple _ = Unit {0}
 
 const_counts : (b : Bool) (xs : Specifiers) → first_counts b (specifiers const_word xs) ≡ first_counts b xs
@@ -57,22 +65,22 @@ word-more : (t : NameEnvironment) (d : ℕ) (b : Bool) (ws : List TypeWord) (w :
     Counts (with_word ws w f) (Costs (all_specifiers t d b ws) ts m) ts m
 word-more t d b ws w f ts m h = go_if {b = is_one_type (ws ++ w ∷ [])} (λ yes. h) (λ no. word-ends t d b ws ts m)
 
-specifiers-by : (t : NameEnvironment) (d : ℕ) (b : Bool) (ws : List TypeWord) (i : Start) (ts : Tokens) (m : Meter) → Simple i → Counts (specifiers_by t d b ws i) (Costs (all_specifiers t d b ws) ts m) ts m
-specifiers-by t d b ws no_specifier ts m s = word-ends t d b ws ts m
-specifiers-by t d b ws (a_qualifier x) ts m s = skips (λ _ us. go_call (λ xs vs n p. go_done (λ before.
-    let a = p before in let none = s.0 in let flat = s.1 in let same = s.3 b xs in (omega (arith, length-append {A = Node}), omega arith, behind ws [] x xs s.2 (rw append-nil a.2)))))
-specifiers-by t d true ws (a_type_word w x) ts m s = word-more t d true ws w _ ts m (pay (skips (λ _ us. go_call (λ xs vs n p. go_done (λ before.
-    let a = p (omega arith) in let none = s.0 in let flat = s.1 in let one = s.3 xs in (omega (arith, length-append {A = Node}), omega arith, behind ws (w ∷ []) x xs s.2 a.2))))))
-specifiers-by t d false ws (a_type_word w x) ts m s = word-more t d false ws w _ ts m (skips (λ _ us. go_call (λ xs vs n p. go_done (λ before.
-    let a = p before in let none = s.0 in let flat = s.1 in (omega (arith, length-append {A = Node}), omega arith, behind ws (w ∷ []) x xs s.2 a.2)))))
-specifiers-by t d true ws a_type_name ts m s = word-more t d true ws of_whole _ ts m (pay (skips (λ a us. go_call (λ xs vs n p. go_done (λ before.
-    let c = p (omega arith) in (omega (arith, length-append {A = Node}), omega arith, behind ws (of_whole ∷ []) (type_name a) xs refl c.2))))))
-specifiers-by t d false ws a_type_name ts m s = word-more t d false ws of_whole _ ts m (skips (λ a us. go_call (λ xs vs n p. go_done (λ before.
-    let c = p before in (omega (arith, length-append {A = Node}), omega arith, behind ws (of_whole ∷ []) (type_name a) xs refl c.2)))))
-specifiers-by t d b ws a_struct_word ts m s = word-more t d b ws of_whole _ ts m (skips (λ _ us. go_call (λ x vs q r. go_call (λ xs es n p. go_done (λ before.
-    let a = r before in let c = p (omega arith) in let tag = tag_counts b x xs a.2 in (omega (arith, length-append {A = Node}), omega arith, behind ws (of_whole ∷ []) x xs tag.1 c.2))))))
-specifiers-by t d b ws an_enum_word ts m s = word-more t d b ws of_whole _ ts m (skips (λ _ us. go_call (λ x vs q r. go_call (λ xs es n p. go_done (λ before.
-    let a = r before in let c = p (omega arith) in let tag = tag_counts b x xs a.2 in (omega (arith, length-append {A = Node}), omega arith, behind ws (of_whole ∷ []) x xs tag.1 c.2))))))
+specifiers-by : (t : NameEnvironment) (d : ℕ) (b : Bool) (ws : List TypeWord) (i : Option Start) (ts : Tokens) (m : Meter) → Simple i → Counts (specifiers_by t d b ws i) (Costs (all_specifiers t d b ws) ts m) ts m
+specifiers-by t d b ws None ts m s = word-ends t d b ws ts m
+specifiers-by t d b ws (Some (sp.Qualifier x)) ts m s = skips (λ _ us. go_call (λ xs vs n p. go_done (λ before.
+    let a = p before in let none = s.0 in let flat = s.1 in let same = s.3 b xs in (omega (arith, length-append {A = Node}), omega arith, behind ws [] (qualifier_of x) xs s.2 (rw append-nil a.2)))))
+specifiers-by t d true ws (Some (sp.Keyword x)) ts m s = word-more t d true ws (type_word x) _ ts m (pay (skips (λ _ us. go_call (λ xs vs n p. go_done (λ before.
+    let a = p (omega arith) in let none = s.0 in let flat = s.1 in let one = s.3 xs in (omega (arith, length-append {A = Node}), omega arith, behind ws (type_word x ∷ []) (keyword_of x) xs s.2 a.2))))))
+specifiers-by t d false ws (Some (sp.Keyword x)) ts m s = word-more t d false ws (type_word x) _ ts m (skips (λ _ us. go_call (λ xs vs n p. go_done (λ before.
+    let a = p before in let none = s.0 in let flat = s.1 in (omega (arith, length-append {A = Node}), omega arith, behind ws (type_word x ∷ []) (keyword_of x) xs s.2 a.2)))))
+specifiers-by t d true ws (Some sp.TypeName) ts m s = word-more t d true ws tw.Whole _ ts m (pay (skips (λ a us. go_call (λ xs vs n p. go_done (λ before.
+    let c = p (omega arith) in (omega (arith, length-append {A = Node}), omega arith, behind ws (tw.Whole ∷ []) (type_name a) xs refl c.2))))))
+specifiers-by t d false ws (Some sp.TypeName) ts m s = word-more t d false ws tw.Whole _ ts m (skips (λ a us. go_call (λ xs vs n p. go_done (λ before.
+    let c = p before in (omega (arith, length-append {A = Node}), omega arith, behind ws (tw.Whole ∷ []) (type_name a) xs refl c.2)))))
+specifiers-by t d b ws (Some sp.Struct) ts m s = word-more t d b ws tw.Whole _ ts m (skips (λ _ us. go_call (λ x vs q r. go_call (λ xs es n p. go_done (λ before.
+    let a = r before in let c = p (omega arith) in let tag = tag_counts b x xs a.2 in (omega (arith, length-append {A = Node}), omega arith, behind ws (tw.Whole ∷ []) x xs tag.1 c.2))))))
+specifiers-by t d b ws (Some sp.Enum) ts m s = word-more t d b ws tw.Whole _ ts m (skips (λ _ us. go_call (λ x vs q r. go_call (λ xs es n p. go_done (λ before.
+    let a = r before in let c = p (omega arith) in let tag = tag_counts b x xs a.2 in (omega (arith, length-append {A = Node}), omega arith, behind ws (tw.Whole ∷ []) x xs tag.1 c.2))))))
 
 -- specifiers
 pub specifiers-cost : (t : NameEnvironment) (d : ℕ) (b : Bool) (ws : List TypeWord) → Cost (all_specifiers t d b ws)

@@ -1,11 +1,15 @@
 -- Expressions and sizes: none of the names that they declare is reserved.
-use Rattle.std.proofs.Common.{ℕ, nat_le, ◌&&◌}
+use Rattle.std.proofs.Common.{ℕ, nat_le, ◌&&◌, Option, Some, None}
 use Rattle.c_tree.specs.ExpressionShape.{level}
 use Rattle.c_tree.specs.Marks.{Tokens}
 use Rattle.c_tree.specs.Tree.{Expression}
 use Rattle.c_grammar.specs.declared.kind.Kind.{Kind}
 use Rattle.c_grammar.specs.declared.kind.Kind.TheVariants as k
-use Rattle.c_grammar.specs.Rules.{NameEnvironment, First, no_operand, a_word, a_number, a_character, a_text, an_open, a_sizeof, a_step, a_unary, first_of_operand, begins_type, opened_by, sized_by, sizeof_by, prefix_by, arguments_by, more_arguments_by, Infix, no_infix, a_comma, an_assign, a_question, an_operator, an_index, a_call, a_dot, an_arrow, a_step_behind, an_expression, a_whole, a_prefix, a_rest, an_opened, all_arguments, more_arguments, longer, goes_on, infix_of, size_by, sizes_by, one_size_by, at_most_one_by, all_sizes, at_most_one_size, rule}
+use Rattle.c_grammar.specs.Rules.{NameEnvironment, first_of_operand, begins_type, opened_by, sized_by, sizeof_by, prefix_by, arguments_by, more_arguments_by, an_expression, a_whole, a_prefix, a_rest, an_opened, all_arguments, more_arguments, longer, goes_on, infix_of, size_by, sizes_by, one_size_by, at_most_one_by, all_sizes, at_most_one_size, rule}
+use Rattle.c_grammar.specs.declared.infix.First.{First}
+use Rattle.c_grammar.specs.declared.infix.Infix.{Infix}
+use Rattle.c_grammar.specs.declared.infix.First.TheVariants as fi
+use Rattle.c_grammar.specs.declared.infix.Infix.TheVariants as ix
 use Rattle.c_grammar.proofs.Avoiding.{avoids_none, avoids_both}
 use Rattle.c_grammar.proofs.Conditions.{go_done, go_stop, go_look, go_spend, go_rise, go_call, go_scope, go_if, go_any, go_wanted, go_a_name}
 use Rattle.c_grammar.proofs.Declares.Apart.{Apart}
@@ -27,16 +31,16 @@ sizeof-by : (t : NameEnvironment) (d l o : ℕ) (e : Kind) (us : Tokens) → Apa
 sizeof-by t d l o k.OpenParen us = go_any (λ n vs. go_look (λ e is. sized-by t d l o e vs))
 sizeof-by t d l o _ us = operand-by t d l o us
 
-prefix-by : (t : NameEnvironment) (d l o : ℕ) (i : First) (ts : Tokens) → Apart (a_prefix t d l o) (prefix_by t d l o i) ts
-prefix-by t d l o no_operand ts = go_stop
-prefix-by t d l o a_word ts = go_spend (λ _ _. go_any (λ n us. go_done (avoids_none t.reserved)))
-prefix-by t d l o a_number ts = go_spend (λ _ _. go_any (λ n us. go_done (avoids_none t.reserved)))
-prefix-by t d l o a_character ts = go_spend (λ _ _. go_any (λ n us. go_done (avoids_none t.reserved)))
-prefix-by t d l o a_text ts = go_spend (λ _ _. go_any (λ n us. go_call (λ ns vs _ p. go_done (avoids_none t.reserved))))
-prefix-by t d l o an_open ts = go_spend (λ _ _. go_any (λ n us. go_look (λ e is. opened-by t d l o e us)))
-prefix-by t d l o a_sizeof ts = go_spend (λ _ _. go_any (λ n us. go_look (λ e is. sizeof-by t d l o e us)))
-prefix-by t d l o (a_step c) ts = go_spend (λ _ _. go_any (λ n us. go_call (λ x vs _ p. go_done p)))
-prefix-by t d l o (a_unary c) ts = go_spend (λ _ _. go_any (λ n us. go_call (λ x vs _ p. go_done p)))
+prefix-by : (t : NameEnvironment) (d l o : ℕ) (i : Option First) (ts : Tokens) → Apart (a_prefix t d l o) (prefix_by t d l o i) ts
+prefix-by t d l o None ts = go_stop
+prefix-by t d l o (Some fi.Word) ts = go_spend (λ _ _. go_any (λ n us. go_done (avoids_none t.reserved)))
+prefix-by t d l o (Some fi.Number) ts = go_spend (λ _ _. go_any (λ n us. go_done (avoids_none t.reserved)))
+prefix-by t d l o (Some fi.Character) ts = go_spend (λ _ _. go_any (λ n us. go_done (avoids_none t.reserved)))
+prefix-by t d l o (Some fi.Text) ts = go_spend (λ _ _. go_any (λ n us. go_call (λ ns vs _ p. go_done (avoids_none t.reserved))))
+prefix-by t d l o (Some fi.Open) ts = go_spend (λ _ _. go_any (λ n us. go_look (λ e is. opened-by t d l o e us)))
+prefix-by t d l o (Some fi.Sizeof) ts = go_spend (λ _ _. go_any (λ n us. go_look (λ e is. sizeof-by t d l o e us)))
+prefix-by t d l o (Some (fi.Step c)) ts = go_spend (λ _ _. go_any (λ n us. go_call (λ x vs _ p. go_done p)))
+prefix-by t d l o (Some (fi.Unary c)) ts = go_spend (λ _ _. go_any (λ n us. go_call (λ x vs _ p. go_done p)))
 
 -- a first operand
 pub a_prefix-apart : (t : NameEnvironment) (d l o : ℕ) (ts : Tokens) → Apart (a_prefix t d l o) (rule (a_prefix t d l o)) ts
@@ -44,19 +48,19 @@ a_prefix-apart t d l o ts = go_look (λ e is. prefix-by t d l o (first_of_operan
 
 -- ---- what follows an operand
 
-longer-by : (t : NameEnvironment) (d l : ℕ) (x : Expression) (i : Infix) (ts : Tokens) → Apart (a_rest t d l x) (longer t d l x i) ts
-longer-by t d l x no_infix ts = go_done (λ h. h)
-longer-by t d l x a_comma ts = go_rise (λ _ _. go_spend (λ _ _. go_any (λ n us. go_call (λ y vs _ p. go_call (λ z ws _ q. go_done (λ h. q (avoids_both t.reserved _ _ h p)))))))
-longer-by t d l x (an_assign o) ts = go_rise (λ _ _. go_spend (λ _ _. go_any (λ n us. go_call (λ y vs _ p. go_call (λ z ws _ q. go_done (λ h. q (avoids_both t.reserved _ _ h p)))))))
-longer-by t d l x a_question ts = go_rise (λ _ _. go_spend (λ _ _. go_any (λ n us. go_call (λ y vs _ p. go_wanted k.Colon (λ os. go_call (λ w rs _ o. go_call (λ z ws _ q.
+longer-by : (t : NameEnvironment) (d l : ℕ) (x : Expression) (i : Option Infix) (ts : Tokens) → Apart (a_rest t d l x) (longer t d l x i) ts
+longer-by t d l x None ts = go_done (λ h. h)
+longer-by t d l x (Some ix.Comma) ts = go_rise (λ _ _. go_spend (λ _ _. go_any (λ n us. go_call (λ y vs _ p. go_call (λ z ws _ q. go_done (λ h. q (avoids_both t.reserved _ _ h p)))))))
+longer-by t d l x (Some (ix.Assign o)) ts = go_rise (λ _ _. go_spend (λ _ _. go_any (λ n us. go_call (λ y vs _ p. go_call (λ z ws _ q. go_done (λ h. q (avoids_both t.reserved _ _ h p)))))))
+longer-by t d l x (Some ix.Question) ts = go_rise (λ _ _. go_spend (λ _ _. go_any (λ n us. go_call (λ y vs _ p. go_wanted k.Colon (λ os. go_call (λ w rs _ o. go_call (λ z ws _ q.
     go_done (λ h. q (avoids_both t.reserved _ _ h (avoids_both t.reserved _ _ p o))))))))))
-longer-by t d l x (an_operator o) ts = go_rise (λ _ _. go_spend (λ _ _. go_any (λ n us. go_call (λ y vs _ p. go_call (λ z ws _ q. go_done (λ h. q (avoids_both t.reserved _ _ h p)))))))
-longer-by t d l x an_index ts = go_rise (λ _ _. go_spend (λ _ _. go_any (λ n us. go_call (λ y vs _ p. go_wanted k.CloseBracket (λ os. go_call (λ z ws _ q.
+longer-by t d l x (Some (ix.Operator o)) ts = go_rise (λ _ _. go_spend (λ _ _. go_any (λ n us. go_call (λ y vs _ p. go_call (λ z ws _ q. go_done (λ h. q (avoids_both t.reserved _ _ h p)))))))
+longer-by t d l x (Some ix.Index) ts = go_rise (λ _ _. go_spend (λ _ _. go_any (λ n us. go_call (λ y vs _ p. go_wanted k.CloseBracket (λ os. go_call (λ z ws _ q.
     go_done (λ h. q (avoids_both t.reserved _ _ h p))))))))
-longer-by t d l x a_call ts = go_rise (λ _ _. go_spend (λ _ _. go_any (λ n us. go_call (λ xs vs _ p. go_call (λ z ws _ q. go_done (λ h. q (avoids_both t.reserved _ _ h p)))))))
-longer-by t d l x a_dot ts = go_rise (λ _ _. go_spend (λ _ _. go_any (λ n us. go_a_name (λ m vs _ _. go_call (λ z ws _ q. go_done q)))))
-longer-by t d l x an_arrow ts = go_rise (λ _ _. go_spend (λ _ _. go_any (λ n us. go_a_name (λ m vs _ _. go_call (λ z ws _ q. go_done q)))))
-longer-by t d l x (a_step_behind o) ts = go_rise (λ _ _. go_spend (λ _ _. go_any (λ n us. go_call (λ z ws _ q. go_done q))))
+longer-by t d l x (Some ix.Call) ts = go_rise (λ _ _. go_spend (λ _ _. go_any (λ n us. go_call (λ xs vs _ p. go_call (λ z ws _ q. go_done (λ h. q (avoids_both t.reserved _ _ h p)))))))
+longer-by t d l x (Some ix.Dot) ts = go_rise (λ _ _. go_spend (λ _ _. go_any (λ n us. go_a_name (λ m vs _ _. go_call (λ z ws _ q. go_done q)))))
+longer-by t d l x (Some ix.Arrow) ts = go_rise (λ _ _. go_spend (λ _ _. go_any (λ n us. go_a_name (λ m vs _ _. go_call (λ z ws _ q. go_done q)))))
+longer-by t d l x (Some (ix.Step o)) ts = go_rise (λ _ _. go_spend (λ _ _. go_any (λ n us. go_call (λ z ws _ q. go_done q))))
 
 -- how an expression goes on
 pub a_rest-apart : (t : NameEnvironment) (d l : ℕ) (x : Expression) (ts : Tokens) → Apart (a_rest t d l x) (rule (a_rest t d l x)) ts

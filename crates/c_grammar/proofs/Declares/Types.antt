@@ -1,13 +1,17 @@
 -- Types and their specifiers, structs and enums: none of the names that they declare is reserved.
-use Rattle.std.proofs.Common.{◌≡◌, ℕ, ◌+◌, Bool, List, [], ◌∷◌, ◌++◌, if◌then◌else◌, refl, sym, subst}
+use Rattle.std.proofs.Common.{◌≡◌, ℕ, ◌+◌, Bool, List, [], ◌∷◌, ◌++◌, if◌then◌else◌, refl, sym, subst, Option, Some, None}
 use Rattle.c_tree.specs.DeclaredNames.{declared_specifier, declared_specifiers}
 use Rattle.c_tree.specs.Marks.{Tokens}
 use Rattle.c_tree.specs.Tree.{Name, Specifiers, Specifier}
-use Rattle.c_tree.specs.TypeWords.{TypeWord, of_whole, is_one_type, IsOrdinary}
+use Rattle.c_tree.specs.TypeWords.{is_one_type, IsOrdinary}
+use Rattle.c_tree.specs.declared.type_word.TypeWord.{TypeWord}
+use Rattle.c_tree.specs.declared.type_word.TypeWord.TheVariants as tw
 use Rattle.c_grammar.specs.declared.kind.Kind.{Kind}
 use Rattle.c_grammar.specs.declared.kind.Kind.TheVariants as k
 use Rattle.c_grammar.specs.Body.{done, stop, spend, call}
-use Rattle.c_grammar.specs.Rules.{NameEnvironment, Reads, a_type, all_specifiers, a_struct, all_members, more_members, all_declarators, more_declarators, an_enum, all_enumerators, more_enumerators, Start, no_specifier, a_qualifier, a_type_word, a_type_name, a_struct_word, an_enum_word, start_of, begins_type, ends_type, with_word, specifiers_by, struct_body_by, struct_by, more_members_by, more_declarators_by, enum_body_by, enum_by, enumerator_by, next_enumerator_by, more_enumerators_by, rule}
+use Rattle.c_grammar.specs.Rules.{NameEnvironment, Reads, a_type, all_specifiers, a_struct, all_members, more_members, all_declarators, more_declarators, an_enum, all_enumerators, more_enumerators, start_of, begins_type, ends_type, with_word, specifiers_by, struct_body_by, struct_by, more_members_by, more_declarators_by, enum_body_by, enum_by, enumerator_by, next_enumerator_by, more_enumerators_by, rule, qualifier_of, keyword_of, type_word}
+use Rattle.c_grammar.specs.declared.start.Start.{Start}
+use Rattle.c_grammar.specs.declared.start.Start.TheVariants as sp
 use Rattle.c_grammar.proofs.Avoiding.{Avoids, avoids_none, avoids_both, avoids_more, avoids_declarator}
 use Rattle.c_grammar.proofs.Conditions.{go_done, go_stop, go_look, go_spend, go_call, go_if, go_any, go_wanted, go_a_name}
 use Rattle.c_grammar.proofs.Declares.Apart.{Apart}
@@ -17,9 +21,9 @@ use Rattle.c_grammar.proofs.Sound.Types.{go_naming}
 -- ---- specifiers
 
 -- a word declares nothing
-abbrev IsBare : Start → Type 0
-IsBare (a_qualifier x) = declared_specifier x ≡ []
-IsBare (a_type_word w x) = declared_specifier x ≡ []
+abbrev IsBare : Option Start → Type 0
+IsBare (Some (sp.Qualifier x)) = declared_specifier (qualifier_of x) ≡ []
+IsBare (Some (sp.Keyword x)) = declared_specifier (keyword_of x) ≡ []
 IsBare _ = Unit {0}
 
 bare_start : (e : Kind) → IsBare (start_of e)
@@ -44,13 +48,13 @@ with-word : (t : NameEnvironment) (d : ℕ) (b : Bool) (ws : List TypeWord) (w :
     Apart (all_specifiers t d b ws) (with_word ws w f) ts
 with-word t d b ws w f ts h = go_if {b = is_one_type (ws ++ w ∷ [])} (λ on. h) (λ off. ends t d b ws ts)
 
-specifiers-by : (t : NameEnvironment) (d : ℕ) (b : Bool) (ws : List TypeWord) (i : Start) (ts : Tokens) → IsBare i → Apart (all_specifiers t d b ws) (specifiers_by t d b ws i) ts
-specifiers-by t d b ws no_specifier ts bare = ends t d b ws ts
-specifiers-by t d b ws (a_qualifier x) ts bare = go_any (λ n us. go_call (λ xs vs _ p. go_done (behind t.reserved x xs bare p)))
-specifiers-by t d b ws (a_type_word w x) ts bare = with-word t d b ws w _ ts (go_naming b d (go_any (λ n us. go_call (λ xs vs _ p. go_done (behind t.reserved x xs bare p)))))
-specifiers-by t d b ws a_type_name ts bare = with-word t d b ws of_whole _ ts (go_naming b d (go_any (λ n us. go_call (λ xs vs _ p. go_done p))))
-specifiers-by t d b ws a_struct_word ts bare = with-word t d b ws of_whole _ ts (go_any (λ n us. go_call (λ x vs _ p. go_call (λ xs os _ q. go_done (avoids_both t.reserved _ _ p q)))))
-specifiers-by t d b ws an_enum_word ts bare = with-word t d b ws of_whole _ ts (go_any (λ n us. go_call (λ x vs _ p. go_call (λ xs os _ q. go_done (avoids_both t.reserved _ _ p q)))))
+specifiers-by : (t : NameEnvironment) (d : ℕ) (b : Bool) (ws : List TypeWord) (i : Option Start) (ts : Tokens) → IsBare i → Apart (all_specifiers t d b ws) (specifiers_by t d b ws i) ts
+specifiers-by t d b ws None ts bare = ends t d b ws ts
+specifiers-by t d b ws (Some (sp.Qualifier x)) ts bare = go_any (λ n us. go_call (λ xs vs _ p. go_done (behind t.reserved (qualifier_of x) xs bare p)))
+specifiers-by t d b ws (Some (sp.Keyword x)) ts bare = with-word t d b ws (type_word x) _ ts (go_naming b d (go_any (λ n us. go_call (λ xs vs _ p. go_done (behind t.reserved (keyword_of x) xs bare p)))))
+specifiers-by t d b ws (Some sp.TypeName) ts bare = with-word t d b ws tw.Whole _ ts (go_naming b d (go_any (λ n us. go_call (λ xs vs _ p. go_done p))))
+specifiers-by t d b ws (Some sp.Struct) ts bare = with-word t d b ws tw.Whole _ ts (go_any (λ n us. go_call (λ x vs _ p. go_call (λ xs os _ q. go_done (avoids_both t.reserved _ _ p q)))))
+specifiers-by t d b ws (Some sp.Enum) ts bare = with-word t d b ws tw.Whole _ ts (go_any (λ n us. go_call (λ x vs _ p. go_call (λ xs os _ q. go_done (avoids_both t.reserved _ _ p q)))))
 
 -- specifiers behind those of some words
 pub all_specifiers-apart : (t : NameEnvironment) (d : ℕ) (b : Bool) (ws : List TypeWord) (ts : Tokens) → Apart (all_specifiers t d b ws) (rule (all_specifiers t d b ws)) ts

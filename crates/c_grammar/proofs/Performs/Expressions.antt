@@ -1,9 +1,13 @@
 -- The bodies of the rules of expressions are fine.
-use Rattle.std.proofs.Common.{ℕ, Bool, true, false, List, [], refl}
+use Rattle.std.proofs.Common.{ℕ, Bool, true, false, List, [], refl, Option, Some, None}
 use Rattle.c_tree.specs.Tree.{Name, Expression, Expressions}
 use Rattle.c_grammar.specs.declared.kind.Kind.{Kind}
 use Rattle.c_grammar.specs.declared.kind.Kind.TheVariants as k
-use Rattle.c_grammar.specs.Rules.{NameEnvironment, First, no_operand, a_word, a_number, a_character, a_text, an_open, a_sizeof, a_step, a_unary, first_of_operand, Infix, no_infix, a_comma, an_assign, a_question, an_operator, an_index, a_call, a_dot, an_arrow, a_step_behind, infix_of, opened_by, sized_by, sizeof_by, prefix_by, longer, texts_by, arguments_by, more_arguments_by, an_expression, a_whole, a_prefix, a_rest, an_opened, more_texts, all_arguments, more_arguments}
+use Rattle.c_grammar.specs.Rules.{NameEnvironment, first_of_operand, infix_of, opened_by, sized_by, sizeof_by, prefix_by, longer, texts_by, arguments_by, more_arguments_by, an_expression, a_whole, a_prefix, a_rest, an_opened, more_texts, all_arguments, more_arguments}
+use Rattle.c_grammar.specs.declared.infix.First.{First}
+use Rattle.c_grammar.specs.declared.infix.Infix.{Infix}
+use Rattle.c_grammar.specs.declared.infix.First.TheVariants as fi
+use Rattle.c_grammar.specs.declared.infix.Infix.TheVariants as ix
 use Rattle.c_grammar.proofs.Performs.Steps.{Fine, IsFine, fine_done, fine_stop, fine_look, fine_each, fine_spend, fine_rise, fine_call, fine_scope, fine_if, fine_take, fine_expect, fine_name}
 
 by_opened : {seen : Bool} (t : NameEnvironment) (d least : ℕ) (e : Kind) → Fine Expression true 1 seen (opened_by t d least e)
@@ -16,28 +20,28 @@ by_sizeof : (t : NameEnvironment) (d : ℕ) (e : Kind) → Fine Expression true 
 by_sizeof t d k.OpenParen = fine_take (λ n. fine_each (λ there e. by_sized t d e))
 by_sizeof t d _ = fine_call refl (λ x. fine_done)
 
-by_prefix : (t : NameEnvironment) (d least owed : ℕ) (f : First) → Fine Expression false 1 true (prefix_by t d least owed f)
-by_prefix t d least owed no_operand = fine_stop
-by_prefix t d least owed a_word = fine_spend (fine_take (λ n. fine_done))
-by_prefix t d least owed a_number = fine_spend (fine_take (λ n. fine_done))
-by_prefix t d least owed a_character = fine_spend (fine_take (λ n. fine_done))
-by_prefix t d least owed a_text = fine_spend (fine_take (λ n. fine_call refl (λ ns. fine_done)))
-by_prefix t d least owed an_open = fine_spend (fine_take (λ n. fine_each (λ there e. by_opened t d least e)))
-by_prefix t d least owed a_sizeof = fine_spend (fine_take (λ n. fine_look (fine_call refl (λ x. fine_done)) (λ e. by_sizeof t d e)))
-by_prefix t d least owed (a_step o) = fine_spend (fine_take (λ n. fine_call refl (λ x. fine_done)))
-by_prefix t d least owed (a_unary o) = fine_spend (fine_take (λ n. fine_call refl (λ x. fine_done)))
+by_prefix : (t : NameEnvironment) (d least owed : ℕ) (f : Option First) → Fine Expression false 1 true (prefix_by t d least owed f)
+by_prefix t d least owed None = fine_stop
+by_prefix t d least owed (Some fi.Word) = fine_spend (fine_take (λ n. fine_done))
+by_prefix t d least owed (Some fi.Number) = fine_spend (fine_take (λ n. fine_done))
+by_prefix t d least owed (Some fi.Character) = fine_spend (fine_take (λ n. fine_done))
+by_prefix t d least owed (Some fi.Text) = fine_spend (fine_take (λ n. fine_call refl (λ ns. fine_done)))
+by_prefix t d least owed (Some fi.Open) = fine_spend (fine_take (λ n. fine_each (λ there e. by_opened t d least e)))
+by_prefix t d least owed (Some fi.Sizeof) = fine_spend (fine_take (λ n. fine_look (fine_call refl (λ x. fine_done)) (λ e. by_sizeof t d e)))
+by_prefix t d least owed (Some (fi.Step o)) = fine_spend (fine_take (λ n. fine_call refl (λ x. fine_done)))
+by_prefix t d least owed (Some (fi.Unary o)) = fine_spend (fine_take (λ n. fine_call refl (λ x. fine_done)))
 
-by_infix : (t : NameEnvironment) (d least : ℕ) (x : Expression) (i : Infix) → Fine Expression false 1 true (longer t d least x i)
-by_infix t d least x no_infix = fine_done
-by_infix t d least x a_comma = fine_rise (fine_spend (fine_take (λ n. fine_call refl (λ y. fine_call refl (λ z. fine_done)))))
-by_infix t d least x (an_assign o) = fine_rise (fine_spend (fine_take (λ n. fine_call refl (λ y. fine_call refl (λ z. fine_done)))))
-by_infix t d least x a_question = fine_rise (fine_spend (fine_take (λ n. fine_call refl (λ y. fine_expect k.Colon tt (fine_call refl (λ w. fine_call refl (λ z. fine_done)))))))
-by_infix t d least x (an_operator o) = fine_rise (fine_spend (fine_take (λ n. fine_call refl (λ y. fine_call refl (λ z. fine_done)))))
-by_infix t d least x an_index = fine_rise (fine_spend (fine_take (λ n. fine_call refl (λ y. fine_expect k.CloseBracket tt (fine_call refl (λ z. fine_done))))))
-by_infix t d least x a_call = fine_rise (fine_spend (fine_take (λ n. fine_call refl (λ xs. fine_call refl (λ z. fine_done)))))
-by_infix t d least x a_dot = fine_rise (fine_spend (fine_take (λ m. fine_name [] (λ n. fine_call refl (λ z. fine_done)))))
-by_infix t d least x an_arrow = fine_rise (fine_spend (fine_take (λ m. fine_name [] (λ n. fine_call refl (λ z. fine_done)))))
-by_infix t d least x (a_step_behind o) = fine_rise (fine_spend (fine_take (λ n. fine_call refl (λ z. fine_done))))
+by_infix : (t : NameEnvironment) (d least : ℕ) (x : Expression) (i : Option Infix) → Fine Expression false 1 true (longer t d least x i)
+by_infix t d least x None = fine_done
+by_infix t d least x (Some ix.Comma) = fine_rise (fine_spend (fine_take (λ n. fine_call refl (λ y. fine_call refl (λ z. fine_done)))))
+by_infix t d least x (Some (ix.Assign o)) = fine_rise (fine_spend (fine_take (λ n. fine_call refl (λ y. fine_call refl (λ z. fine_done)))))
+by_infix t d least x (Some ix.Question) = fine_rise (fine_spend (fine_take (λ n. fine_call refl (λ y. fine_expect k.Colon tt (fine_call refl (λ w. fine_call refl (λ z. fine_done)))))))
+by_infix t d least x (Some (ix.Operator o)) = fine_rise (fine_spend (fine_take (λ n. fine_call refl (λ y. fine_call refl (λ z. fine_done)))))
+by_infix t d least x (Some ix.Index) = fine_rise (fine_spend (fine_take (λ n. fine_call refl (λ y. fine_expect k.CloseBracket tt (fine_call refl (λ z. fine_done))))))
+by_infix t d least x (Some ix.Call) = fine_rise (fine_spend (fine_take (λ n. fine_call refl (λ xs. fine_call refl (λ z. fine_done)))))
+by_infix t d least x (Some ix.Dot) = fine_rise (fine_spend (fine_take (λ m. fine_name [] (λ n. fine_call refl (λ z. fine_done)))))
+by_infix t d least x (Some ix.Arrow) = fine_rise (fine_spend (fine_take (λ m. fine_name [] (λ n. fine_call refl (λ z. fine_done)))))
+by_infix t d least x (Some (ix.Step o)) = fine_rise (fine_spend (fine_take (λ n. fine_call refl (λ z. fine_done))))
 
 by_texts : (e : Kind) → Fine (List Name) false 1 true (texts_by e)
 by_texts k.Text = fine_take (λ n. fine_call refl (λ ns. fine_done))

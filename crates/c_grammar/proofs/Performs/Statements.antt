@@ -2,7 +2,7 @@
 use Rattle.std.proofs.Common.{◌≡◌, ℕ, ◌+◌, Bool, true, false, ◌||◌, List, [], ◌∷◌, Option, Some, refl, if◌then◌else◌}
 use Rattle.c_tree.specs.declared.tree.Storage.{Storage}
 use Rattle.c_tree.specs.declared.tree.Storage.TheVariants as st
-use Rattle.c_tree.specs.Shape.{Scope, Place, behind_specifiers}
+use Rattle.c_tree.specs.Shape.{Scope, Context, behind_specifiers}
 use Rattle.c_tree.specs.Tree.{Name, Expression, Specifiers, DeclaratorTree, NamedTree, DeclarationTree, ForStartTree, StatementTree, declaration, Statements, ItemTree, Stars, name, plain, function, expression_statement}
 use Rattle.c_grammar.specs.declared.kind.Kind.{Kind}
 use Rattle.c_grammar.specs.declared.kind.Kind.TheVariants as k
@@ -64,7 +64,7 @@ unfound t d e real = unmet_else e _ real (otherwise t d e real)
 by_start : {seen : Bool} (t : NameEnvironment) (d : ℕ) (e : Kind) → Fine ForStartTree false 6 seen (start_by t d e)
 by_start t d e = fine_if _ (fine_spend (fine_call refl (λ x. fine_done))) (fine_call refl (λ x. fine_done))
 
-by_else : (t : NameEnvironment) (d : ℕ) (p : Place) (x : Expression) (y : StatementTree) (e : Kind) → Fine StatementTree true 6 true (else_by t d p x y e)
+by_else : (t : NameEnvironment) (d : ℕ) (p : Context) (x : Expression) (y : StatementTree) (e : Kind) → Fine StatementTree true 6 true (else_by t d p x y e)
 by_else t d p x y k.Else = fine_spend (fine_take (λ n. fine_call refl (λ z. fine_done)))
 by_else t d p x y _ = fine_done
 
@@ -79,11 +79,11 @@ by_labelled : (t : NameEnvironment) (d : ℕ) (n : Name) (e : Kind) → Fine Sta
 by_labelled t d n k.Colon = fine_take (λ m. fine_done)
 by_labelled t d n e = labelled_rest t d n (follows_name e)
 
-other_statement : {seen : Bool} (t : NameEnvironment) (d : ℕ) (p : Place) (owed : ℕ) (b : Bool) →
+other_statement : {seen : Bool} (t : NameEnvironment) (d : ℕ) (p : Context) (owed : ℕ) (b : Bool) →
     Fine StatementTree false 6 seen (if b then (if p.in_block then spend owed (d + 1) (call (a_declaration t (d + 1)) (λ x. done (declaration x))) else stop) else expressed t d owed)
 other_statement t d p owed b = fine_if b (fine_if _ (fine_spend (fine_call refl (λ x. fine_done))) fine_stop) (by_expression t d owed)
 
-by_statement : (t : NameEnvironment) (d : ℕ) (p : Place) (owed : ℕ) (e : Kind) → Fine StatementTree false 6 true (statement_by t d p owed e)
+by_statement : (t : NameEnvironment) (d : ℕ) (p : Context) (owed : ℕ) (e : Kind) → Fine StatementTree false 6 true (statement_by t d p owed e)
 by_statement t d p owed k.OpenBrace = fine_spend (fine_take (λ n. fine_call refl (λ ss. fine_done)))
 by_statement t d p owed k.Semicolon = fine_spend (fine_take (λ n. fine_done))
 by_statement t d p owed k.If =
@@ -104,7 +104,7 @@ by_statement t d p owed k.Name =
     fine_if _ (fine_spend (fine_take (λ n. fine_look fine_stop (by_labelled t d n)))) (by_expression t d owed)
 by_statement t d p owed e = other_statement t d p owed (begins_declaration e)
 
-by_statements : (t : NameEnvironment) (d : ℕ) (p : Place) (e : Kind) → Fine Statements false 7 true (statements_by t d p e)
+by_statements : (t : NameEnvironment) (d : ℕ) (p : Context) (e : Kind) → Fine Statements false 7 true (statements_by t d p e)
 by_statements t d p k.CloseBrace = fine_take (λ n. fine_done)
 by_statements t d p _ = fine_strict refl (λ x. fine_call refl (λ xs. fine_done))
 
@@ -115,10 +115,10 @@ optional_fine t d e real = fine_look (unfound t d e real) (by_optional t d e rea
 pub start_fine : (t : NameEnvironment) (d : ℕ) → IsFine (a_start t d)
 start_fine t d = fine_each (λ there e. by_start t d e)
 
-pub statement_fine : (t : NameEnvironment) (d : ℕ) (p : Place) (owed : ℕ) → IsFine (a_statement t d p owed)
+pub statement_fine : (t : NameEnvironment) (d : ℕ) (p : Context) (owed : ℕ) → IsFine (a_statement t d p owed)
 statement_fine t d p owed = fine_look (by_expression t d owed) (by_statement t d p owed)
 
-pub statements_fine : (t : NameEnvironment) (d : ℕ) (p : Place) → IsFine (all_statements t d p)
+pub statements_fine : (t : NameEnvironment) (d : ℕ) (p : Context) → IsFine (all_statements t d p)
 statements_fine t d p = fine_look (fine_strict refl (λ x. fine_call refl (λ xs. fine_done))) (by_statements t d p)
 
 -- ---- items

@@ -1,23 +1,25 @@
 -- The bodies of the rules of types and their specifiers are fine.
-use Rattle.std.proofs.Common.{ℕ, ◌+◌, if◌then◌else◌, Bool, true, false, List, [], refl}
-use Rattle.c_tree.specs.TypeWords.{TypeWord}
+use Rattle.std.proofs.Common.{ℕ, ◌+◌, if◌then◌else◌, Bool, true, false, List, [], refl, Option, Some, None}
+use Rattle.c_tree.specs.declared.type_word.TypeWord.{TypeWord}
 use Rattle.c_tree.specs.Tree.{Name, Specifiers, Specifier, Members, Declarators, Enumerators}
 use Rattle.c_grammar.specs.declared.kind.Kind.{Kind}
 use Rattle.c_grammar.specs.declared.kind.Kind.TheVariants as k
 use Rattle.c_grammar.specs.Body.{done, stop, spend, call}
-use Rattle.c_grammar.specs.Rules.{NameEnvironment, begins_type, Start, no_specifier, a_qualifier, a_type_word, a_type_name, a_struct_word, an_enum_word, start_of, ends_type, specifiers_by, struct_body_by, struct_by, more_members_by, more_declarators_by, enum_body_by, enum_by, enumerator_by, next_enumerator_by, more_enumerators_by, a_type, all_specifiers, a_struct, all_members, more_members, all_declarators, more_declarators, an_enum, all_enumerators, more_enumerators}
+use Rattle.c_grammar.specs.Rules.{NameEnvironment, begins_type, start_of, ends_type, specifiers_by, struct_body_by, struct_by, more_members_by, more_declarators_by, enum_body_by, enum_by, enumerator_by, next_enumerator_by, more_enumerators_by, a_type, all_specifiers, a_struct, all_members, more_members, all_declarators, more_declarators, an_enum, all_enumerators, more_enumerators}
+use Rattle.c_grammar.specs.declared.start.Start.{Start}
+use Rattle.c_grammar.specs.declared.start.Start.TheVariants as sp
 use Rattle.c_grammar.proofs.Performs.Steps.{Fine, IsFine, fine_done, fine_stop, fine_look, fine_spend, fine_call, fine_if, fine_take, fine_expect, fine_name, fine_naming}
 
 at_end : {free seen : Bool} {limit : ℕ} (ws : List TypeWord) → Fine Specifiers free limit seen (ends_type ws)
 at_end ws = fine_if _ fine_done fine_stop
 
-by_start : (t : NameEnvironment) (d : ℕ) (b : Bool) (ws : List TypeWord) (s : Start) → Fine Specifiers false 1 true (specifiers_by t d b ws s)
-by_start t d b ws no_specifier = at_end ws
-by_start t d b ws (a_qualifier x) = fine_take (λ n. fine_call refl (λ xs. fine_done))
-by_start t d b ws (a_type_word w x) = fine_if _ (fine_naming b d (fine_take (λ n. fine_call refl (λ xs. fine_done)))) (at_end ws)
-by_start t d b ws a_type_name = fine_if _ (fine_naming b d (fine_take (λ n. fine_call refl (λ xs. fine_done)))) (at_end ws)
-by_start t d b ws a_struct_word = fine_if _ (fine_take (λ n. fine_call refl (λ x. fine_call refl (λ xs. fine_done)))) (at_end ws)
-by_start t d b ws an_enum_word = fine_if _ (fine_take (λ n. fine_call refl (λ x. fine_call refl (λ xs. fine_done)))) (at_end ws)
+by_start : (t : NameEnvironment) (d : ℕ) (b : Bool) (ws : List TypeWord) (s : Option Start) → Fine Specifiers false 1 true (specifiers_by t d b ws s)
+by_start t d b ws None = at_end ws
+by_start t d b ws (Some (sp.Qualifier x)) = fine_take (λ n. fine_call refl (λ xs. fine_done))
+by_start t d b ws (Some (sp.Keyword x)) = fine_if _ (fine_naming b d (fine_take (λ n. fine_call refl (λ xs. fine_done)))) (at_end ws)
+by_start t d b ws (Some sp.TypeName) = fine_if _ (fine_naming b d (fine_take (λ n. fine_call refl (λ xs. fine_done)))) (at_end ws)
+by_start t d b ws (Some sp.Struct) = fine_if _ (fine_take (λ n. fine_call refl (λ x. fine_call refl (λ xs. fine_done)))) (at_end ws)
+by_start t d b ws (Some sp.Enum) = fine_if _ (fine_take (λ n. fine_call refl (λ x. fine_call refl (λ xs. fine_done)))) (at_end ws)
 
 by_struct_body : (t : NameEnvironment) (d : ℕ) (n : Name) (e : Kind) → Fine Specifier true 1 true (struct_body_by t d n e)
 by_struct_body t d n k.OpenBrace = fine_spend (fine_take (λ m. fine_call refl (λ ms. fine_done)))

@@ -11,7 +11,7 @@ use Rattle.c_grammar.specs.declared.kind.Kind.{Kind}
 use Rattle.c_grammar.specs.declared.kind.Kind.TheVariants as k
 use Rattle.c_grammar.specs.Kind.{kind, token_of, IsFixed, IsUnnamed}
 use Rattle.c_grammar.specs.Body.{done, look, call, got}
-use Rattle.c_grammar.specs.Rules.{NameEnvironment, only_types, naming, an_expression, an_initializer, all_initializers, more_initializers, a_declaration, a_declared, a_named, more_named, first_of_operand, no_operand, begins_type, begins_declarator, initializer_by, initializers_by, next_initializer_by, declaration_by, declared_names_by, has_initializer, named_init_by}
+use Rattle.c_grammar.specs.Rules.{NameEnvironment, only_types, naming, an_expression, an_initializer, all_initializers, more_initializers, a_declaration, a_declared, a_named, more_named, first_of_operand, begins_type, begins_declarator, initializer_by, initializers_by, next_initializer_by, declaration_by, declared_names_by, has_initializer, named_init_by}
 use Rattle.c_grammar.proofs.KindLemmas.{kind_at, kind_same}
 use Rattle.c_grammar.proofs.Onto.{onto_init, onto_initializers, onto_more_initializers, onto_trailing, onto_specifiers, onto_declarator, onto_initial, onto_named, onto_more_named, onto_all_named, onto_storage, onto_declaration}
 use Rattle.c_grammar.proofs.Parse.{parse}
@@ -38,7 +38,7 @@ brace_dot e = absurd (cc)
 brace_brace : k.OpenBrace ≢ k.CloseBrace
 brace_brace e = absurd (cc)
 
-by_expression : (t : NameEnvironment) (d o : ℕ) (e : Kind) → first_of_operand e ≢ no_operand → initializer_by t d o e ≡ call (an_expression t d 2 o) (λ x. done (single x))
+by_expression : (t : NameEnvironment) (d o : ℕ) (e : Kind) → first_of_operand e ≢ None → initializer_by t d o e ≡ call (an_expression t d 2 o) (λ x. done (single x))
 by_expression t d o k.OpenBrace h = absurd (h refl)
 by_expression t d o _ h = refl
 
@@ -51,7 +51,7 @@ by_next t d k.CloseBrace h = absurd (h refl)
 by_next t d _ h = refl
 
 -- an initialiser begins with no token of this kind
-pub init_other : (t others : List Name) (i : Initializer) (r : Tokens) (e : Kind) → IsUnnamed e → first_of_operand e ≡ no_operand → k.OpenBrace ≢ e → ShapeInit t i → kind others (onto_init i r) ≢ e
+pub init_other : (t others : List Name) (i : Initializer) (r : Tokens) (e : Kind) → IsUnnamed e → first_of_operand e ≡ None → k.OpenBrace ≢ e → ShapeInit t i → kind others (onto_init i r) ≢ e
 init_other t others (single x) r e un none other h is = expression_head (only_types t) x r h.1 (ap first_of_operand (kind_same others t _ e un is) ∙ none)
 init_other t others (listed ps c) r e un none other h is = kind_other others k.OpenBrace e _ tt other is
 

@@ -1,5 +1,5 @@
 -- Expressions with an operator behind their first operand are read.
-use Rattle.std.proofs.Common.{◌≡◌, ◌+◌, ◌≤◌, suc, [], ◌∷◌, codes, refl, ◌∙◌, arith}
+use Rattle.std.proofs.Common.{◌≡◌, ◌+◌, ◌≤◌, suc, [], ◌∷◌, codes, refl, ◌∙◌, arith, Some}
 use Rattle.c_tree.specs.declared.tree.AssignOp.{AssignOp}
 use Rattle.c_tree.specs.declared.tree.BinaryOp.{BinaryOp}
 use Rattle.c_tree.specs.declared.tree.StepOp.{StepOp}
@@ -9,7 +9,8 @@ use Rattle.c_tree.specs.TypeWords.{IsOrdinary}
 use Rattle.c_tree.specs.ExpressionShape.{level, op_level}
 use Rattle.c_grammar.specs.declared.kind.Kind.TheVariants as k
 use Rattle.c_grammar.specs.Kind.{token_of, operator_kind, assignment_kind, step_kind}
-use Rattle.c_grammar.specs.Rules.{NameEnvironment, a_comma, an_assign, a_question, an_operator, an_index, a_call, a_dot, an_arrow, a_step_behind}
+use Rattle.c_grammar.specs.Rules.{NameEnvironment}
+use Rattle.c_grammar.specs.declared.infix.Infix.TheVariants as ix
 use Rattle.c_grammar.proofs.Onto.{onto_expression, onto_arguments}
 use Rattle.c_grammar.proofs.KindLemmas.{kind_at}
 use Rattle.c_grammar.proofs.Weight.{weight, weight_at}
@@ -26,7 +27,7 @@ module _ (t : NameEnvironment) where
         let us = mark (codes ",") ∷ onto_expression y r in
         let w : weight us ≡ 1 = weight_at k.Comma [] (onto_expression y r) tt in
         hx.whole d l o us some few (omega arith) (omega (arith, ceiling_low x xl))
-        ∙ rest_goes t d l x us _ k.Comma a_comma (kind_at t.types k.Comma [] _ tt) refl fits xl
+        ∙ rest_goes t d l x us _ k.Comma (Some ix.Comma) (kind_at t.types k.Comma [] _ tt) refl fits xl
         (run_rise (run_spend (run_take (run_call refl (expression_read t (d + 1) 2 0 y r hy (omega arith) (omega arith) yl (omega arith)) (run_rest refl refl)))));
   }
 
@@ -37,7 +38,7 @@ module _ (t : NameEnvironment) where
         let us = mark (assign_text a) ∷ onto_expression y r in
         let w : weight us ≡ 2 = assignment_weighs a (onto_expression y r) in
         hx.whole d l o us some few (omega arith) (omega (arith, ceiling_high x (omega arith)))
-        ∙ rest_goes t d l x us _ (assignment_kind a) (an_assign a) (kind_assignment t.types a _) (infix_assignment a) fits xl
+        ∙ rest_goes t d l x us _ (assignment_kind a) (Some (ix.Assign a)) (kind_assignment t.types a _) (infix_assignment a) fits xl
         (run_rise (run_spend (run_take (run_call refl (expression_read t (d + 1) 2 0 y r hy (omega arith) (omega arith) yl (omega arith)) (run_rest refl refl)))));
   }
 
@@ -50,7 +51,7 @@ module _ (t : NameEnvironment) where
         let w : weight us ≡ 3 = weight_at k.Question [] (onto_expression y vs) tt in
         let v : weight vs ≡ 0 = weight_at k.Colon [] (onto_expression z r) tt in
         hx.whole d l o us some few (omega arith) (omega (arith, ceiling_high x xl))
-        ∙ rest_goes t d l x us _ k.Question a_question (kind_at t.types k.Question [] _ tt) refl fits xl
+        ∙ rest_goes t d l x us _ k.Question (Some ix.Question) (kind_at t.types k.Question [] _ tt) refl fits xl
         (run_rise (run_spend (run_take
         (run_call refl (expression_read t (d + 1) 1 0 y vs hy (omega arith) (omega arith) yl (omega arith))
         (run_expect k.Colon tt
@@ -66,7 +67,7 @@ module _ (t : NameEnvironment) where
         let low : 4 ≤ op_level b = operator_least b in
         let high : op_level b ≤ 13 = operator_most b in
         hx.whole d l o us some few (omega arith) (omega (arith, ceiling_high x (omega arith)))
-        ∙ rest_goes t d l x us _ (operator_kind b) (an_operator b) (kind_operator t.types b _) (infix_operator b) fits xl
+        ∙ rest_goes t d l x us _ (operator_kind b) (Some (ix.Operator b)) (kind_operator t.types b _) (infix_operator b) fits xl
         (run_rise (run_spend (run_take (run_call refl (expression_read t (d + 1) (suc (op_level b)) 0 y r hy (omega arith) (omega arith) yl (omega arith)) (run_rest refl refl)))));
   }
 
@@ -79,7 +80,7 @@ module _ (t : NameEnvironment) where
         let w : weight us ≡ 16 = weight_at k.OpenBracket [] (onto_expression y vs) tt in
         let v : weight vs ≡ 0 = weight_at k.CloseBracket [] r tt in
         hx.whole d l o us some few (omega arith) (omega (arith, ceiling_high x (omega arith)))
-        ∙ rest_goes t d l x us _ k.OpenBracket an_index (kind_at t.types k.OpenBracket [] _ tt) refl fits xl
+        ∙ rest_goes t d l x us _ k.OpenBracket (Some ix.Index) (kind_at t.types k.OpenBracket [] _ tt) refl fits xl
         (run_rise (run_spend (run_take
         (run_call refl (expression_read t (d + 1) 1 0 y vs hy (omega arith) (omega arith) yl (omega arith))
         (run_expect k.CloseBracket tt (run_rest refl refl))))));
@@ -93,7 +94,7 @@ module _ (t : NameEnvironment) where
         let us = mark (codes "(") ∷ onto_arguments xs vs in
         let w : weight us ≡ 16 = weight_at k.OpenParen [] (onto_arguments xs vs) tt in
         hx.whole d l o us some few (omega arith) (omega (arith, ceiling_high x (omega arith)))
-        ∙ rest_goes t d l x us _ k.OpenParen a_call (kind_at t.types k.OpenParen [] _ tt) refl fits xl
+        ∙ rest_goes t d l x us _ k.OpenParen (Some ix.Call) (kind_at t.types k.OpenParen [] _ tt) refl fits xl
         (run_rise (run_spend (run_take (run_call refl (hy.all (d + 1) r) (run_rest refl refl)))));
   }
 
@@ -103,7 +104,7 @@ module _ (t : NameEnvironment) where
     whole = λ d l o r some few fits ends.
         let w : weight _ ≡ 16 = weight_at k.Dot [] (token_of k.Name n ∷ r) tt in
         hx.whole d l o _ some few (omega arith) (omega (arith, ceiling_high x (omega arith)))
-        ∙ rest_goes t d l x _ _ k.Dot a_dot (kind_at t.types k.Dot [] _ tt) refl fits xl
+        ∙ rest_goes t d l x _ _ k.Dot (Some ix.Dot) (kind_at t.types k.Dot [] _ tt) refl fits xl
         (run_rise (run_spend (run_take (run_name new (run_rest refl refl)))));
   }
 
@@ -113,7 +114,7 @@ module _ (t : NameEnvironment) where
     whole = λ d l o r some few fits ends.
         let w : weight _ ≡ 16 = weight_at k.Arrow [] (token_of k.Name n ∷ r) tt in
         hx.whole d l o _ some few (omega arith) (omega (arith, ceiling_high x (omega arith)))
-        ∙ rest_goes t d l x _ _ k.Arrow an_arrow (kind_at t.types k.Arrow [] _ tt) refl fits xl
+        ∙ rest_goes t d l x _ _ k.Arrow (Some ix.Arrow) (kind_at t.types k.Arrow [] _ tt) refl fits xl
         (run_rise (run_spend (run_take (run_name new (run_rest refl refl)))));
   }
 
@@ -123,6 +124,6 @@ module _ (t : NameEnvironment) where
     whole = λ d l o r some few fits ends.
         let w : weight (mark (step_text s) ∷ r) ≡ 16 = step_weighs s r in
         hx.whole d l o _ some few (omega arith) (omega (arith, ceiling_high x (omega arith)))
-        ∙ rest_goes t d l x _ _ (step_kind s) (a_step_behind s) (kind_step t.types s _) (infix_step s) fits xl
+        ∙ rest_goes t d l x _ _ (step_kind s) (Some (ix.Step s)) (kind_step t.types s _) (infix_step s) fits xl
         (run_rise (run_spend (run_take (run_rest refl refl))));
   }

@@ -1,5 +1,5 @@
 -- Expressions that begin with their own token are read.
-use Rattle.std.proofs.Common.{◌≡◌, ◌≢◌, ℕ, ◌+◌, ◌<◌, ◌≤◌, Bool, true, false, ◌&&◌, nat_le, cond, List, [], ◌∷◌, length, codes, refl, sym, ap, subst, ◌∙◌, arith}
+use Rattle.std.proofs.Common.{◌≡◌, ◌≢◌, ℕ, ◌+◌, ◌<◌, ◌≤◌, Bool, true, false, ◌&&◌, nat_le, cond, List, [], ◌∷◌, length, codes, refl, sym, ap, subst, ◌∙◌, arith, Option, Some, None}
 use Rattle.std.proofs.lemmas.Bool.{cond-true, cond-false, and_from, and_left}
 use Rattle.std.proofs.lemmas.Bool.Decides.{nat_tests}
 use Rattle.c_tree.specs.declared.tree.UnaryOp.{UnaryOp}
@@ -14,7 +14,9 @@ use Rattle.c_grammar.specs.Kind.{kind, same_kind, unary_kind, step_kind}
 use Rattle.c_grammar.specs.Body.{Outcome, got, refused, exceeded, done, stop, take, and_then, exec}
 use Rattle.c_grammar.specs.Body as body
 use Rattle.c_grammar.specs.Gauge.{free}
-use Rattle.c_grammar.specs.Rules.{NameEnvironment, Rule, Result, Reads, rank, expect, First, a_unary, a_step, prefix_by, first_of_operand, texts_by, sizeof_by, begins_type, an_expression, a_whole, a_prefix, a_rest, an_opened, more_texts}
+use Rattle.c_grammar.specs.Rules.{NameEnvironment, Rule, Result, Reads, rank, expect, prefix_by, first_of_operand, texts_by, sizeof_by, begins_type, an_expression, a_whole, a_prefix, a_rest, an_opened, more_texts}
+use Rattle.c_grammar.specs.declared.infix.First.{First}
+use Rattle.c_grammar.specs.declared.infix.First.TheVariants as fi
 use Rattle.c_grammar.proofs.Onto.{onto_expression, onto_texts, onto_type}
 use Rattle.c_grammar.proofs.Parse.{parse, opening}
 use Rattle.c_grammar.proofs.KindLemmas.{kind_at, kind_name, head_is}
@@ -44,16 +46,16 @@ no_text r few = λ e. absurd (omega (arith, weight_kind r k.Text e))
 abbrev exec_free : {A : Type 0} → Bool → ℕ → Reads A → Tokens → Outcome (Unit {0}) A
 exec_free taken limit b ts = exec Rule Result rank (Unit {0}) free (λ q us y. parse q us) taken limit b ts tt
 
-prefix_owed : (t : NameEnvironment) (d l o p : ℕ) (ts : Tokens) (i : First) → exec_free false 1 (prefix_by t d l o i) ts ≡ exec_free false 1 (prefix_by t d l p i) ts
-prefix_owed t d l o p ts First.no_operand = refl
-prefix_owed t d l o p ts First.a_word = refl
-prefix_owed t d l o p ts First.a_number = refl
-prefix_owed t d l o p ts First.a_character = refl
-prefix_owed t d l o p ts First.a_text = refl
-prefix_owed t d l o p ts First.an_open = refl
-prefix_owed t d l o p ts First.a_sizeof = refl
-prefix_owed t d l o p ts (First.a_step s) = refl
-prefix_owed t d l o p ts (First.a_unary u) = refl
+prefix_owed : (t : NameEnvironment) (d l o p : ℕ) (ts : Tokens) (i : Option First) → exec_free false 1 (prefix_by t d l o i) ts ≡ exec_free false 1 (prefix_by t d l p i) ts
+prefix_owed t d l o p ts None = refl
+prefix_owed t d l o p ts (Some fi.Word) = refl
+prefix_owed t d l o p ts (Some fi.Number) = refl
+prefix_owed t d l o p ts (Some fi.Character) = refl
+prefix_owed t d l o p ts (Some fi.Text) = refl
+prefix_owed t d l o p ts (Some fi.Open) = refl
+prefix_owed t d l o p ts (Some fi.Sizeof) = refl
+prefix_owed t d l o p ts (Some (fi.Step s)) = refl
+prefix_owed t d l o p ts (Some (fi.Unary u)) = refl
 
 whole_owed : (t : NameEnvironment) (d l o p : ℕ) (ts : Tokens) → parse (a_whole t d l o) ts ≡ parse (a_whole t d l p) ts
 whole_owed t d l o p ts =
@@ -105,21 +107,21 @@ module _ (t : NameEnvironment) where
   pub name_reads : (n : Name) → IsOrdinary t.types n → ReadsExpression t (name n)
   name_reads n new = record {
     whole = λ d l o r some few fits ends.
-        prefix_reads t d l o _ (name n) r k.Name First.a_word (kind_name t.types n r new) refl (run_spend (run_take (run_done refl)));
+        prefix_reads t d l o _ (name n) r k.Name (Some fi.Word) (kind_name t.types n r new) refl (run_spend (run_take (run_done refl)));
   }
 
   -- an integer is read
   pub integer_reads : (n : Name) → ReadsExpression t (integer n)
   integer_reads n = record {
     whole = λ d l o r some few fits ends.
-        prefix_reads t d l o _ (integer n) r k.Integer First.a_number (kind_at t.types k.Integer n r tt) refl (run_spend (run_take (run_done refl)));
+        prefix_reads t d l o _ (integer n) r k.Integer (Some fi.Number) (kind_at t.types k.Integer n r tt) refl (run_spend (run_take (run_done refl)));
   }
 
   -- a character is read
   pub character_reads : (n : Name) → ReadsExpression t (character n)
   character_reads n = record {
     whole = λ d l o r some few fits ends.
-        prefix_reads t d l o _ (character n) r k.Character First.a_character (kind_at t.types k.Character n r tt) refl (run_spend (run_take (run_done refl)));
+        prefix_reads t d l o _ (character n) r k.Character (Some fi.Character) (kind_at t.types k.Character n r tt) refl (run_spend (run_take (run_done refl)));
   }
 
   -- string literals are read
@@ -127,7 +129,7 @@ module _ (t : NameEnvironment) where
   text_reads [] long = absurd (omega arith)
   text_reads (n ∷ ns) long = record {
     whole = λ d l o r some few fits ends.
-        prefix_reads t d l o _ (text (n ∷ ns)) r k.Text First.a_text (kind_at t.types k.Text n _ tt) refl
+        prefix_reads t d l o _ (text (n ∷ ns)) r k.Text (Some fi.Text) (kind_at t.types k.Text n _ tt) refl
         (run_spend (run_take (run_call refl (texts_read ns r (no_text r ends)) (run_done refl))));
   }
 
@@ -138,7 +140,7 @@ module _ (t : NameEnvironment) where
         let us = mark (codes ")") ∷ r in
         let w : weight us ≡ 0 = weight_at k.CloseParen [] r tt in
         let none : begins_type (kind t.types (onto_expression x us)) ≡ false = operand_no_type _ (expression_head t x us s) in
-        prefix_reads t d l o _ (paren x) r k.OpenParen First.an_open (kind_at t.types k.OpenParen [] _ tt) refl
+        prefix_reads t d l o _ (paren x) r k.OpenParen (Some fi.Open) (kind_at t.types k.OpenParen [] _ tt) refl
         (run_spend (run_take (run_seen (cond-false (begins_type (kind t.types (onto_expression x us)) && nat_le l 14) _ _ (and_left _ (nat_le l 14) none))
         (run_call refl (expression_read t (d + 1) 1 0 x us hx (omega arith) (omega arith) xl (omega arith)) (run_expect k.CloseParen tt (run_done refl))))));
   }
@@ -149,7 +151,7 @@ module _ (t : NameEnvironment) where
     whole = λ d l o r some few fits ends.
         let us = mark (codes ")") ∷ onto_expression x r in
         let low : nat_le l 14 ≡ true = grind (arith, nat_tests) in
-        prefix_reads t d l o _ (cast y x) r k.OpenParen First.an_open (kind_at t.types k.OpenParen [] _ tt) refl
+        prefix_reads t d l o _ (cast y x) r k.OpenParen (Some fi.Open) (kind_at t.types k.OpenParen [] _ tt) refl
         (run_spend (run_take (run_seen (cond-true (begins_type (kind t.types (onto_type y us)) && nat_le l 14) _ _ (and_from _ (nat_le l 14) (begins us) low))
         (run_call refl (hy.all (d + 1) (onto_expression x r)) (run_expect k.CloseParen tt
         (run_call refl (expression_read t (d + 1) 14 0 x r hx (omega arith) (omega arith) xl (omega (arith, weight_gap r))) (run_done refl)))))));
@@ -159,7 +161,7 @@ module _ (t : NameEnvironment) where
   pub unary_reads : (u : UnaryOp) (x : Expression) → 14 ≤ level x → ReadsExpression t x → ReadsExpression t (unary u x)
   unary_reads u x xl hx = record {
     whole = λ d l o r some few fits ends.
-        prefix_reads t d l o _ (unary u x) r (unary_kind u) (a_unary u) (kind_unary t.types u _) (first_unary u)
+        prefix_reads t d l o _ (unary u x) r (unary_kind u) (Some (fi.Unary u)) (kind_unary t.types u _) (first_unary u)
         (run_spend (run_take (run_call refl (expression_read t (d + 1) 14 0 x r hx (omega arith) (omega arith) xl (omega (arith, weight_gap r))) (run_done refl))));
   }
 
@@ -167,7 +169,7 @@ module _ (t : NameEnvironment) where
   pub before_reads : (s : StepOp) (x : Expression) → 15 ≤ level x → ReadsExpression t x → ReadsExpression t (before s x)
   before_reads s x xl hx = record {
     whole = λ d l o r some few fits ends.
-        prefix_reads t d l o _ (before s x) r (step_kind s) (a_step s) (kind_step t.types s _) (first_step s)
+        prefix_reads t d l o _ (before s x) r (step_kind s) (Some (fi.Step s)) (kind_step t.types s _) (first_step s)
         (run_spend (run_take (run_call refl (expression_read t (d + 1) 15 0 x r hx (omega arith) (omega arith) xl (omega (arith, weight_gap r))) (run_done refl))));
   }
 
@@ -175,7 +177,7 @@ module _ (t : NameEnvironment) where
   pub size_of_type_reads : (y : TypeTree) → ((us : Tokens) → begins_type (kind t.types (onto_type y us)) ≡ true) → ReadsType t y → ReadsExpression t (size_of_type y)
   size_of_type_reads y begins hy = record {
     whole = λ d l o r some few fits ends.
-        prefix_reads t d l o _ (size_of_type y) r k.Sizeof First.a_sizeof (kind_at t.types k.Sizeof [] _ tt) refl
+        prefix_reads t d l o _ (size_of_type y) r k.Sizeof (Some fi.Sizeof) (kind_at t.types k.Sizeof [] _ tt) refl
         (run_spend (run_take (run_at k.OpenParen tt (run_take (run_seen (cond-true (begins_type (kind t.types (onto_type y (mark (codes ")") ∷ r)))) _ _ (begins _))
         (run_call refl (hy.all (d + 1) r) (run_expect k.CloseParen tt (run_done refl))))))));
   }
@@ -202,6 +204,6 @@ module _ (t : NameEnvironment) where
         let ts = onto_expression x r in
         let all : parse (an_expression t (d + 1) 15 1) ts ≡ got x r tt = expression_read t (d + 1) 15 1 x r hx (omega arith) (omega arith) xl (omega arith) in
         let whole : parse (a_whole t (d + 1) 15 0) ts ≡ got x r tt = whole_read t (d + 1) 15 0 x r hx (omega arith) (omega arith) xl (omega arith) in
-        prefix_reads t d l o _ (size_of x) r k.Sizeof First.a_sizeof (kind_at t.types k.Sizeof [] _ tt) refl
+        prefix_reads t d l o _ (size_of x) r k.Sizeof (Some fi.Sizeof) (kind_at t.types k.Sizeof [] _ tt) refl
         (run_spend (run_take (run_look (kind t.types ts) refl (sized d x r ts (omega arith) xl refl whole (λ us e. open_no_type t x r us s xl e) all (kind t.types ts) refl))));
   }

@@ -8,13 +8,15 @@ use Rattle.c_tree.specs.declared.tree.BinaryOp.TheVariants as b
 use Rattle.c_tree.specs.Marks.{Tokens, mark, name_token}
 use Rattle.c_tree.specs.Tree.{Name, Expression, binary, comma, name, DeclarationTree, ForStartTree, start_declaration, start_expression, StatementTree, block, declaration, expression_statement, if_statement, if_else_statement, while_statement, do_statement, for_statement, switch_statement, case_label, default_label, named_label, break_statement, continue_statement, return_statement, goto_statement, Statements, no_statements, statements}
 use Rattle.c_tree.specs.ExpressionShape.{level, ShapeExpression}
-use Rattle.c_tree.specs.Shape.{Place, of_loop, of_branch, of_block, of_switch, IsNoTypedef, ShapeInner, ShapeOptional, ShapeStart, ends_open, ShapeStatement, ShapeStatements}
+use Rattle.c_tree.specs.Shape.{Context, of_loop, of_branch, of_block, of_switch, IsNoTypedef, ShapeInner, ShapeOptional, ShapeStart, ends_open, ShapeStatement, ShapeStatements}
 use Rattle.c_tree.specs.Spelling.{spell_statement}
 use Rattle.c_grammar.specs.declared.kind.Kind.{Kind}
 use Rattle.c_grammar.specs.declared.kind.Kind.TheVariants as k
 use Rattle.c_grammar.specs.Kind.{kind, same_kind, token_of, IsFixed, IsUnnamed}
 use Rattle.c_grammar.specs.Body.{done, stop, look, take, call, strict, spend, scope, Outcome, got}
-use Rattle.c_grammar.specs.Rules.{NameEnvironment, only_types, Infix, infix_of, no_infix, an_operator, goes_on, follows_name, an_expression, a_whole, a_rest, a_declaration, an_optional, a_start, a_statement, all_statements, expect, first_of_operand, no_operand, begins_type, begins_declaration, else_by, expressed, labelled_by, statement_by, statements_by}
+use Rattle.c_grammar.specs.Rules.{NameEnvironment, only_types, infix_of, goes_on, follows_name, an_expression, a_whole, a_rest, a_declaration, an_optional, a_start, a_statement, all_statements, expect, first_of_operand, begins_type, begins_declaration, else_by, expressed, labelled_by, statement_by, statements_by}
+use Rattle.c_grammar.specs.declared.infix.Infix.{Infix}
+use Rattle.c_grammar.specs.declared.infix.Infix.TheVariants as ix
 use Rattle.c_grammar.proofs.KindLemmas.{same_refl, same_true, same_false, false_same, kind_end, kind_at, kind_name, kind_same, name_head}
 use Rattle.c_grammar.proofs.Onto.{onto_expression, onto_specifiers, onto_storage, onto_declaration, onto_optional, onto_for_start, onto_statement, onto_statements}
 use Rattle.c_grammar.proofs.OntoSpelling.{statement_onto}
@@ -43,7 +45,7 @@ pub expression_alone : (t : List Name) (d o : ℕ) (x : Expression) (e : Kind) (
 expression_alone t d o x e r fixed ends s = expression_complete t d 1 o x (token_of e [] ∷ r) s (omega arith) (omega arith) (level_some x) (light e r 1 fixed ends)
 
 -- an expression is read up to a token, or the token alone
-pub optional_complete : (t : List Name) (d : ℕ) (e : Kind) (x : Option Expression) (r : Tokens) → IsFixed e → IsUnnamed e → first_of_operand e ≡ no_operand → weight_of e < 1 → ShapeOptional t x →
+pub optional_complete : (t : List Name) (d : ℕ) (e : Kind) (x : Option Expression) (r : Tokens) → IsFixed e → IsUnnamed e → first_of_operand e ≡ None → weight_of e < 1 → ShapeOptional t x →
     parse (an_optional (only_types t) d e) (onto_optional x (token_of e [] ∷ r)) ≡ got x r tt
 optional_complete t d e None r fixed un none ends s = ran (an_optional (only_types t) d e) _ _ (run_at e fixed (run_then _ (same_refl e) (run_take (run_done refl))))
 optional_complete t d e (Some x) r fixed un none ends s =
@@ -52,7 +54,7 @@ optional_complete t d e (Some x) r fixed un none ends s =
     (run_call refl (expression_alone t d 1 x e r fixed ends s) (run_expect e fixed (run_done refl)))))
 
 -- an operand begins no declaration
-operand_no_declaration : (e : Kind) → first_of_operand e ≢ no_operand → begins_declaration e ≡ false
+operand_no_declaration : (e : Kind) → first_of_operand e ≢ None → begins_declaration e ≡ false
 operand_no_declaration k.Name h = refl
 operand_no_declaration k.Integer h = refl
 operand_no_declaration k.Character h = refl
@@ -96,7 +98,7 @@ start_complete t d (start_expression (Some x)) r s =
 
 -- ---- an expression as a statement
 
-by_operand : (t : NameEnvironment) (d : ℕ) (p : Place) (o : ℕ) (e : Kind) → first_of_operand e ≢ no_operand → e ≢ k.Name → statement_by t d p o e ≡ expressed t d o
+by_operand : (t : NameEnvironment) (d : ℕ) (p : Context) (o : ℕ) (e : Kind) → first_of_operand e ≢ None → e ≢ k.Name → statement_by t d p o e ≡ expressed t d o
 by_operand t d p o k.Name h new = absurd (new refl)
 by_operand t d p o k.Integer h new = refl
 by_operand t d p o k.Character h new = refl
@@ -122,16 +124,16 @@ by_rest t d n k.Colon h follows = absurd (h refl)
 by_rest t d n e h follows = cond-true (follows_name e) (spend 1 (d + 2) (scope (d + 2) (a_rest t (d + 1) 1 (name n)) (λ x. expect k.Semicolon (done (expression_statement (Some x)))))) stop follows
 
 -- a name goes on with every operator
-operator_goes : (o : BinaryOp) → goes_on 1 (an_operator o) 17 ≡ true
+operator_goes : (o : BinaryOp) → goes_on 1 (Some (ix.Operator o)) 17 ≡ true
 operator_goes b.Or = refl
 operator_goes _ = refl
 
-no_goes : (i : Infix) → goes_on 1 i 17 ≡ false → i ≡ no_infix
-no_goes no_infix h = refl
-no_goes (an_operator o) h = absurd (false_true (sym h ∙ operator_goes o))
+no_goes : (i : Option Infix) → goes_on 1 i 17 ≡ false → i ≡ None
+no_goes None h = refl
+no_goes (Some (ix.Operator o)) h = absurd (false_true (sym h ∙ operator_goes o))
 no_goes _ h = absurd (cc)
 
-no_follow : (e : Kind) → follows_name e ≡ false → infix_of e ≡ no_infix
+no_follow : (e : Kind) → follows_name e ≡ false → infix_of e ≡ None
 no_follow k.Semicolon h = absurd (cc)
 no_follow e h = no_goes (infix_of e) h
 
@@ -163,20 +165,20 @@ labelled_runs t d x r n us s begins =
     run_seen (by_rest (only_types t) d n _ (λ is. kind_other [] k.Semicolon k.Colon r tt semicolon_colon (ap (kind []) (sym (first.1 is)) ∙ is)) (name_follows t (d + 1) x r n us rest _ refl))
     (run_spend (run_scope refl rest (run_expect k.Semicolon tt (run_done refl))))
 
-named_runs : (t : List Name) (d : ℕ) (p : Place) (o : ℕ) (x : Expression) (r : Tokens) (in_block : Bool) → p.in_block ≡ in_block → ShapeExpression t x → kind t (onto_expression x (mark (codes ";") ∷ r)) ≡ k.Name →
+named_runs : (t : List Name) (d : ℕ) (p : Context) (o : ℕ) (x : Expression) (r : Tokens) (in_block : Bool) → p.in_block ≡ in_block → ShapeExpression t x → kind t (onto_expression x (mark (codes ";") ∷ r)) ≡ k.Name →
     Runs false 6 (statement_by (only_types t) d p o k.Name) (onto_expression x (mark (codes ";") ∷ r)) (got (expression_statement (Some x)) r tt)
 named_runs t d p o x r false at s is = run_else _ at (expressed_runs t d o x r s)
 named_runs t d p o x r true at s is =
     let h = name_head t _ is in
     run_then _ at (run_spend (subst (λ ts. Runs false 6 (take (λ n. look [] (labelled_by (only_types t) d n))) ts (got (expression_statement (Some x)) r tt)) (sym h.2) (run_take (labelled_runs t d x r h.0 h.1 s h.2))))
 
-expressed_by : (t : List Name) (d : ℕ) (p : Place) (o : ℕ) (x : Expression) (r : Tokens) (named : Bool) → same_kind (kind t (onto_expression x (mark (codes ";") ∷ r))) k.Name ≡ named → ShapeExpression t x →
+expressed_by : (t : List Name) (d : ℕ) (p : Context) (o : ℕ) (x : Expression) (r : Tokens) (named : Bool) → same_kind (kind t (onto_expression x (mark (codes ";") ∷ r))) k.Name ≡ named → ShapeExpression t x →
     parse (a_statement (only_types t) d p o) (onto_expression x (mark (codes ";") ∷ r)) ≡ got (expression_statement (Some x)) r tt
 expressed_by t d p o x r true test s = let is = same_true _ k.Name test in ran (a_statement (only_types t) d p o) _ _ (run_look k.Name is (named_runs t d p o x r p.in_block refl s is))
 expressed_by t d p o x r false test s = ran (a_statement (only_types t) d p o) _ _ (run_seen (by_operand (only_types t) d p o _ (expression_head (only_types t) x _ s) (same_false _ k.Name test)) (expressed_runs t d o x r s))
 
 -- an expression and its semicolon are read as a statement: a name there is no label
-pub expressed_complete : (t : List Name) (d : ℕ) (p : Place) (o : ℕ) (x : Expression) (r : Tokens) → ShapeExpression t x →
+pub expressed_complete : (t : List Name) (d : ℕ) (p : Context) (o : ℕ) (x : Expression) (r : Tokens) → ShapeExpression t x →
     parse (a_statement (only_types t) d p o) (onto_expression x (mark (codes ";") ∷ r)) ≡ got (expression_statement (Some x)) r tt
 expressed_complete t d p o x r s = expressed_by t d p o x r _ refl s
 
@@ -189,7 +191,7 @@ begins_statement k.Else = false
 begins_statement k.Nothing = false
 begins_statement _ = true
 
-operand_statement : (e : Kind) → first_of_operand e ≢ no_operand → begins_statement e ≡ true
+operand_statement : (e : Kind) → first_of_operand e ≢ None → begins_statement e ≡ true
 operand_statement k.CloseBrace h = absurd (h refl)
 operand_statement k.Else h = absurd (h refl)
 operand_statement k.Nothing h = absurd (h refl)
@@ -202,7 +204,7 @@ declaration_statement k.Nothing h = absurd (cc)
 declaration_statement _ h = refl
 
 -- a statement begins as one
-statement_head : (t : List Name) (p : Place) (x : StatementTree) (r : Tokens) → ShapeStatement t x p → begins_statement (kind t (onto_statement x r)) ≡ true
+statement_head : (t : List Name) (p : Context) (x : StatementTree) (r : Tokens) → ShapeStatement t x p → begins_statement (kind t (onto_statement x r)) ≡ true
 statement_head t p (block ss) r s = ap begins_statement (kind_at t k.OpenBrace [] _ tt)
 statement_head t p (declaration x) r s = declaration_statement _ (declaration_head t x r s.1)
 statement_head t p (expression_statement None) r s = ap begins_statement (kind_at t k.Semicolon [] _ tt)
@@ -222,14 +224,14 @@ statement_head t p (return_statement x) r s = ap begins_statement (kind_at t k.R
 statement_head t p (goto_statement n) r s = ap begins_statement (kind_at t k.Goto [] _ tt)
 
 -- a statement begins with no token of this kind
-statement_other : (t others : List Name) (p : Place) (x : StatementTree) (r : Tokens) (e : Kind) → IsUnnamed e → begins_statement e ≡ false → ShapeStatement t x p → kind others (onto_statement x r) ≢ e
+statement_other : (t others : List Name) (p : Context) (x : StatementTree) (r : Tokens) (e : Kind) → IsUnnamed e → begins_statement e ≡ false → ShapeStatement t x p → kind others (onto_statement x r) ≢ e
 statement_other t others p x r e un no_start s is = false_true (sym no_start ∙ sym (ap begins_statement (kind_same others t _ e un is)) ∙ statement_head t p x r s)
 
-nothing_left : (t : List Name) (p : Place) (x : StatementTree) → ShapeStatement t x p → spell_statement x ≢ []
+nothing_left : (t : List Name) (p : Context) (x : StatementTree) → ShapeStatement t x p → spell_statement x ≢ []
 nothing_left t p x s e = statement_other t t p x [] k.Nothing tt refl s (ap (kind t) (statement_onto x [] ∙ ap (λ ts. ts ++ []) e) ∙ kind_end t)
 
 -- a statement takes a token at least
-pub statement_longer : (t : List Name) (p : Place) (x : StatementTree) (r : Tokens) → ShapeStatement t x p → length r < length (onto_statement x r)
+pub statement_longer : (t : List Name) (p : Context) (x : StatementTree) (r : Tokens) → ShapeStatement t x p → length r < length (onto_statement x r)
 statement_longer t p x r s = subst (λ ts. length r < length ts) (sym (statement_onto x r)) (longer_by (spell_statement x) r (nothing_left t p x s))
 
 brace_else : k.CloseBrace ≢ k.Else
@@ -239,13 +241,13 @@ while_else : k.While ≢ k.Else
 while_else e = absurd (cc)
 
 -- no else follows where other statements, or the end of a block, do
-statements_other : (t : List Name) (p : Place) (xs : Statements) (r : Tokens) → ShapeStatements t xs p → kind [] (onto_statements xs (mark (codes "}") ∷ r)) ≢ k.Else
+statements_other : (t : List Name) (p : Context) (xs : Statements) (r : Tokens) → ShapeStatements t xs p → kind [] (onto_statements xs (mark (codes "}") ∷ r)) ≢ k.Else
 statements_other t p no_statements r s = kind_other [] k.CloseBrace k.Else r tt brace_else
 statements_other t p (statements x xs) r s = statement_other t [] p x _ k.Else tt refl s.0
 
 -- ---- statements
 
-by_declaration : (t : NameEnvironment) (d : ℕ) (p : Place) (o : ℕ) (e : Kind) → begins_declaration e ≡ true →
+by_declaration : (t : NameEnvironment) (d : ℕ) (p : Context) (o : ℕ) (e : Kind) → begins_declaration e ≡ true →
     statement_by t d p o e ≡ cond p.in_block (spend o (d + 1) (call (a_declaration t (d + 1)) (λ x. done (declaration x)))) stop
 by_declaration t d p o k.Static h = refl
 by_declaration t d p o k.Extern h = refl
@@ -263,17 +265,17 @@ by_declaration t d p o k.Struct h = refl
 by_declaration t d p o k.Enum h = refl
 by_declaration t d p o _ h = absurd (cc)
 
-by_no_else : (t : NameEnvironment) (d : ℕ) (p : Place) (x : Expression) (y : StatementTree) (e : Kind) → e ≢ k.Else → else_by t d p x y e ≡ done (if_statement x y)
+by_no_else : (t : NameEnvironment) (d : ℕ) (p : Context) (x : Expression) (y : StatementTree) (e : Kind) → e ≢ k.Else → else_by t d p x y e ≡ done (if_statement x y)
 by_no_else t d p x y k.Else h = absurd (h refl)
 by_no_else t d p x y _ h = refl
 
-by_statement : (t : NameEnvironment) (d : ℕ) (p : Place) (e : Kind) → e ≢ k.CloseBrace → statements_by t d p e ≡ strict (a_statement t d p 1) (λ x. call (all_statements t d p) (λ xs. done (statements x xs)))
+by_statement : (t : NameEnvironment) (d : ℕ) (p : Context) (e : Kind) → e ≢ k.CloseBrace → statements_by t d p e ≡ strict (a_statement t d p 1) (λ x. call (all_statements t d p) (λ xs. done (statements x xs)))
 by_statement t d p k.CloseBrace h = absurd (h refl)
 by_statement t d p _ h = refl
 
 mutual
   -- a statement is read, where no else follows that it would take
-  pub statement_complete : (t : List Name) (d : ℕ) (p : Place) (o : ℕ) (x : StatementTree) (r : Tokens) → ShapeStatement t x p → (IsTrue (ends_open x) → kind [] r ≢ k.Else) →
+  pub statement_complete : (t : List Name) (d : ℕ) (p : Context) (o : ℕ) (x : StatementTree) (r : Tokens) → ShapeStatement t x p → (IsTrue (ends_open x) → kind [] r ≢ k.Else) →
       parse (a_statement (only_types t) d p o) (onto_statement x r) ≡ got x r tt
   statement_complete t d p o (block ss) r s ends = ran (a_statement (only_types t) d p o) _ _ (run_at k.OpenBrace tt (run_spend (run_take (run_call refl (statements_complete t (d + 1) (of_block p) ss r s) (run_done refl)))))
   statement_complete t d p o (declaration x) r s ends =
@@ -313,7 +315,7 @@ mutual
   statement_complete t d p o (goto_statement n) r s ends = ran (a_statement (only_types t) d p o) _ _ (run_at k.Goto tt (run_spend (run_take (run_name s (run_expect k.Semicolon tt (run_done refl))))))
 
   -- the statements of a block are read, with the closing brace
-  pub statements_complete : (t : List Name) (d : ℕ) (p : Place) (xs : Statements) (r : Tokens) → ShapeStatements t xs p →
+  pub statements_complete : (t : List Name) (d : ℕ) (p : Context) (xs : Statements) (r : Tokens) → ShapeStatements t xs p →
       parse (all_statements (only_types t) d p) (onto_statements xs (mark (codes "}") ∷ r)) ≡ got xs r tt
   statements_complete t d p no_statements r s = ran (all_statements (only_types t) d p) _ _ (run_at k.CloseBrace tt (run_take (run_done refl)))
   statements_complete t d p (statements x xs) r s =

@@ -2,7 +2,8 @@
 use Rattle.std.proofs.Common.{◌≡◌, ◌≢◌, ◌⊎◌, ℕ, ◌≤◌, Bool, true, false, List, [], ◌∷◌, ◌++◌, codes}
 use Rattle.c_tree.specs.Tree.{Expression, Expressions, Sizes, TypeTree, Specifiers, specifiers, Specifier, Members, Declarators, Enumerators, DeclaratorTree, Parameters, ParameterForm, BareTree}
 use Rattle.c_tree.specs.Marks.{Tokens, mark}
-use Rattle.c_tree.specs.TypeWords.{TypeWord, type_words, words_of, is_one_type}
+use Rattle.c_tree.specs.TypeWords.{type_words, words_of, is_one_type}
+use Rattle.c_tree.specs.declared.type_word.TypeWord.{TypeWord}
 use Rattle.c_tree.specs.ExpressionShape.{level, AtMostOne, HasMember, HasDeclarator, HasEnumerator, IsNoFunction}
 use Rattle.c_grammar.specs.declared.kind.Kind.TheVariants as k
 use Rattle.c_grammar.specs.Kind.{kind}

@@ -1,5 +1,5 @@
 -- Expressions and their operands: what is read is spelled by a tree of its shape.
-use Rattle.std.proofs.Common.{◌≡◌, ℕ, ◌≤◌, nat_le, Bool, true, ◌&&◌, [], ◌∷◌, codes, refl, ◌∙◌, arith}
+use Rattle.std.proofs.Common.{◌≡◌, ℕ, ◌≤◌, nat_le, Bool, true, ◌&&◌, [], ◌∷◌, codes, refl, ◌∙◌, arith, Option, Some, None}
 use Rattle.std.proofs.lemmas.Bool.Decides.{nat_tests}
 use Rattle.c_tree.specs.declared.tree.UnaryOp.{UnaryOp}
 use Rattle.c_tree.specs.declared.tree.UnaryOp.TheVariants as u
@@ -7,23 +7,25 @@ use Rattle.c_tree.specs.Marks.{Tokens, keyword, mark}
 use Rattle.c_grammar.specs.declared.kind.Kind.{Kind}
 use Rattle.c_grammar.specs.declared.kind.Kind.TheVariants as k
 use Rattle.c_grammar.specs.Kind.{kind, IsReal, unary_kind, step_kind}
-use Rattle.c_grammar.specs.Rules.{NameEnvironment, an_expression, a_whole, a_prefix, an_opened, more_texts, all_arguments, more_arguments, First, no_operand, a_word, a_number, a_character, a_text, an_open, a_sizeof, a_step, a_unary, first_of_operand, begins_type, prefix_by, opened_by, sized_by, sizeof_by, texts_by, arguments_by, more_arguments_by, rule}
+use Rattle.c_grammar.specs.Rules.{NameEnvironment, an_expression, a_whole, a_prefix, an_opened, more_texts, all_arguments, more_arguments, first_of_operand, begins_type, prefix_by, opened_by, sized_by, sizeof_by, texts_by, arguments_by, more_arguments_by, rule}
+use Rattle.c_grammar.specs.declared.infix.First.{First}
+use Rattle.c_grammar.specs.declared.infix.First.TheVariants as fi
 use Rattle.c_grammar.proofs.Conditions.{go_done, go_stop, go_look, go_spend, go_call, go_scope, go_if, go_take, go_name, go_expect}
 use Rattle.c_grammar.proofs.KindLemmas.{unary_mark, step_mark}
 use Rattle.c_grammar.proofs.Sound.Rest.{step_real}
 use Rattle.c_grammar.proofs.Keeps.{Keeps, KeepsOn}
 
 -- the kind of the token that an operand begins with
-abbrev Begins : First → Kind → Type 0
-Begins no_operand e = Unit {0}
-Begins a_word e = e ≡ k.Name
-Begins a_number e = e ≡ k.Integer
-Begins a_character e = e ≡ k.Character
-Begins a_text e = e ≡ k.Text
-Begins an_open e = e ≡ k.OpenParen
-Begins a_sizeof e = e ≡ k.Sizeof
-Begins (a_step o) e = e ≡ step_kind o
-Begins (a_unary o) e = e ≡ unary_kind o
+abbrev Begins : Option First → Kind → Type 0
+Begins None e = Unit {0}
+Begins (Some fi.Word) e = e ≡ k.Name
+Begins (Some fi.Number) e = e ≡ k.Integer
+Begins (Some fi.Character) e = e ≡ k.Character
+Begins (Some fi.Text) e = e ≡ k.Text
+Begins (Some fi.Open) e = e ≡ k.OpenParen
+Begins (Some fi.Sizeof) e = e ≡ k.Sizeof
+Begins (Some (fi.Step o)) e = e ≡ step_kind o
+Begins (Some (fi.Unary o)) e = e ≡ unary_kind o
 
 begins : (e : Kind) → Begins (first_of_operand e) e
 begins k.Name = refl
@@ -72,17 +74,17 @@ sizeof-by : (t : NameEnvironment) (d l o : ℕ) (ts us : Tokens) (e : Kind) → 
 sizeof-by t d l o ts us k.OpenParen is at = go_take t.types k.OpenParen is tt (λ n vs opening. go_look (λ e _. sized-by t d l o ts us vs e at opening))
 sizeof-by t d l o ts us _ is at = operand-by t d l o ts us at
 
-prefix-by : (t : NameEnvironment) (d l o : ℕ) (ts : Tokens) (e : Kind) (f : First) → kind t.types ts ≡ e → Begins f e → Keeps (a_prefix t d l o) (prefix_by t d l o f) ts
-prefix-by t d l o ts e no_operand is st = go_stop
-prefix-by t d l o ts e a_word is st = go_spend (λ _ _. go_name t.types (is ∙ st) (λ n us at ordinary. go_done (λ low. (at, ordinary, omega arith))))
-prefix-by t d l o ts e a_number is st = go_spend (λ _ _. go_take t.types k.Integer (is ∙ st) tt (λ n us at. go_done (λ low. (at, tt, omega arith))))
-prefix-by t d l o ts e a_character is st = go_spend (λ _ _. go_take t.types k.Character (is ∙ st) tt (λ n us at. go_done (λ low. (at, tt, omega arith))))
-prefix-by t d l o ts e a_text is st = go_spend (λ _ _. go_take t.types k.Text (is ∙ st) tt (λ n us at. go_call (λ ns vs _ p. go_done (λ low. (rw (at, p) refl, omega arith, omega arith)))))
-prefix-by t d l o ts e an_open is st = go_spend (λ _ _. go_take t.types k.OpenParen (is ∙ st) tt (λ n us at. go_look (λ j _. opened-by t d l o ts us j at)))
-prefix-by t d l o ts e a_sizeof is st = go_spend (λ _ _. go_take t.types k.Sizeof (is ∙ st) tt (λ n us at. go_look (λ j next. sizeof-by t d l o ts us j next at)))
-prefix-by t d l o ts e (a_step c) is st = go_spend (λ _ _. go_take t.types (step_kind c) (is ∙ st) (step_real c) (λ n us at. go_call (λ x vs _ p. go_done (λ low.
+prefix-by : (t : NameEnvironment) (d l o : ℕ) (ts : Tokens) (e : Kind) (f : Option First) → kind t.types ts ≡ e → Begins f e → Keeps (a_prefix t d l o) (prefix_by t d l o f) ts
+prefix-by t d l o ts e None is st = go_stop
+prefix-by t d l o ts e (Some fi.Word) is st = go_spend (λ _ _. go_name t.types (is ∙ st) (λ n us at ordinary. go_done (λ low. (at, ordinary, omega arith))))
+prefix-by t d l o ts e (Some fi.Number) is st = go_spend (λ _ _. go_take t.types k.Integer (is ∙ st) tt (λ n us at. go_done (λ low. (at, tt, omega arith))))
+prefix-by t d l o ts e (Some fi.Character) is st = go_spend (λ _ _. go_take t.types k.Character (is ∙ st) tt (λ n us at. go_done (λ low. (at, tt, omega arith))))
+prefix-by t d l o ts e (Some fi.Text) is st = go_spend (λ _ _. go_take t.types k.Text (is ∙ st) tt (λ n us at. go_call (λ ns vs _ p. go_done (λ low. (rw (at, p) refl, omega arith, omega arith)))))
+prefix-by t d l o ts e (Some fi.Open) is st = go_spend (λ _ _. go_take t.types k.OpenParen (is ∙ st) tt (λ n us at. go_look (λ j _. opened-by t d l o ts us j at)))
+prefix-by t d l o ts e (Some fi.Sizeof) is st = go_spend (λ _ _. go_take t.types k.Sizeof (is ∙ st) tt (λ n us at. go_look (λ j next. sizeof-by t d l o ts us j next at)))
+prefix-by t d l o ts e (Some (fi.Step c)) is st = go_spend (λ _ _. go_take t.types (step_kind c) (is ∙ st) (step_real c) (λ n us at. go_call (λ x vs _ p. go_done (λ low.
     let read = p (omega arith) in (rw (at, step_mark c n, read.0) refl, (read.2, read.1), low)))))
-prefix-by t d l o ts e (a_unary c) is st = go_spend (λ _ _. go_take t.types (unary_kind c) (is ∙ st) (unary_real c) (λ n us at. go_call (λ x vs _ p. go_done (λ low.
+prefix-by t d l o ts e (Some (fi.Unary c)) is st = go_spend (λ _ _. go_take t.types (unary_kind c) (is ∙ st) (unary_real c) (λ n us at. go_call (λ x vs _ p. go_done (λ low.
     let read = p (omega arith) in (rw (at, unary_mark c n, read.0) refl, (read.2, read.1), low)))))
 
 -- the first operand of an expression

@@ -1,5 +1,5 @@
 -- How an expression goes on behind one that was read.
-use Rattle.std.proofs.Common.{◌≡◌, ℕ, suc, ◌≤◌, nat_le, true, ◌&&◌, refl, ◌∙◌, arith}
+use Rattle.std.proofs.Common.{◌≡◌, ℕ, suc, ◌≤◌, nat_le, true, ◌&&◌, refl, ◌∙◌, arith, Option, Some, None}
 use Rattle.std.proofs.lemmas.Bool.Decides.{nat_tests}
 use Rattle.c_tree.specs.declared.tree.AssignOp.{AssignOp}
 use Rattle.c_tree.specs.declared.tree.AssignOp.TheVariants as a
@@ -13,23 +13,25 @@ use Rattle.c_tree.specs.Tree.{Expression}
 use Rattle.c_grammar.specs.declared.kind.Kind.{Kind}
 use Rattle.c_grammar.specs.declared.kind.Kind.TheVariants as k
 use Rattle.c_grammar.specs.Kind.{kind, IsReal, operator_kind, assignment_kind, step_kind}
-use Rattle.c_grammar.specs.Rules.{NameEnvironment, a_rest, longer, Infix, no_infix, a_comma, an_assign, a_question, an_operator, an_index, a_call, a_dot, an_arrow, a_step_behind, infix_of, goes_on, rule}
+use Rattle.c_grammar.specs.Rules.{NameEnvironment, a_rest, longer, infix_of, goes_on, rule}
+use Rattle.c_grammar.specs.declared.infix.Infix.{Infix}
+use Rattle.c_grammar.specs.declared.infix.Infix.TheVariants as ix
 use Rattle.c_grammar.proofs.Conditions.{go_done, go_look, go_spend, go_rise, go_call, go_if, go_take, go_expect, go_a_name}
 use Rattle.c_grammar.proofs.KindLemmas.{operator_mark, assignment_mark, step_mark}
 use Rattle.c_grammar.proofs.Keeps.{Keeps}
 
 -- the kind of the token that an expression goes on with
-abbrev Stands : Infix → Kind → Type 0
-Stands no_infix e = Unit {0}
-Stands a_comma e = e ≡ k.Comma
-Stands (an_assign o) e = e ≡ assignment_kind o
-Stands a_question e = e ≡ k.Question
-Stands (an_operator o) e = e ≡ operator_kind o
-Stands an_index e = e ≡ k.OpenBracket
-Stands a_call e = e ≡ k.OpenParen
-Stands a_dot e = e ≡ k.Dot
-Stands an_arrow e = e ≡ k.Arrow
-Stands (a_step_behind o) e = e ≡ step_kind o
+abbrev Stands : Option Infix → Kind → Type 0
+Stands None e = Unit {0}
+Stands (Some ix.Comma) e = e ≡ k.Comma
+Stands (Some (ix.Assign o)) e = e ≡ assignment_kind o
+Stands (Some ix.Question) e = e ≡ k.Question
+Stands (Some (ix.Operator o)) e = e ≡ operator_kind o
+Stands (Some ix.Index) e = e ≡ k.OpenBracket
+Stands (Some ix.Call) e = e ≡ k.OpenParen
+Stands (Some ix.Dot) e = e ≡ k.Dot
+Stands (Some ix.Arrow) e = e ≡ k.Arrow
+Stands (Some (ix.Step o)) e = e ≡ step_kind o
 
 stands : (e : Kind) → Stands (infix_of e) e
 stands k.Comma = refl
@@ -133,33 +135,33 @@ operator_low b.Rem = omega arith
 allowed : (l own left v : ℕ) → nat_le l own && nat_le left v ≡ true → (l ≤ own) × (left ≤ v)
 allowed l own left v e = (grind (arith, nat_tests), grind (arith, nat_tests))
 
-rest-by : (t : NameEnvironment) (d l : ℕ) (x : Expression) (ts : Tokens) (e : Kind) (i : Infix) → kind t.types ts ≡ e → Stands i e → goes_on l i (level x) ≡ true → Keeps (a_rest t d l x) (longer t d l x i) ts
-rest-by t d l x ts e no_infix is st on = go_done (λ s h. (refl, s, h))
-rest-by t d l x ts e a_comma is st on = let fits = allowed l 1 1 (level x) on in
+rest-by : (t : NameEnvironment) (d l : ℕ) (x : Expression) (ts : Tokens) (e : Kind) (i : Option Infix) → kind t.types ts ≡ e → Stands i e → goes_on l i (level x) ≡ true → Keeps (a_rest t d l x) (longer t d l x i) ts
+rest-by t d l x ts e None is st on = go_done (λ s h. (refl, s, h))
+rest-by t d l x ts e (Some ix.Comma) is st on = let fits = allowed l 1 1 (level x) on in
     go_rise (λ _ _. go_spend (λ _ _. go_take t.types k.Comma (is ∙ st) tt (λ n us at. go_call (λ y vs _ p. go_call (λ z ws _ q. go_done (λ s h.
     let read = p (omega arith) in let rest = q (fits.1, read.2, s, read.1) fits.0 in (rw (at, read.0) rest.0, rest.1, rest.2)))))))
-rest-by t d l x ts e (an_assign o) is st on = let fits = allowed l 2 15 (level x) on in
+rest-by t d l x ts e (Some (ix.Assign o)) is st on = let fits = allowed l 2 15 (level x) on in
     go_rise (λ _ _. go_spend (λ _ _. go_take t.types (assignment_kind o) (is ∙ st) (assignment_real o) (λ n us at. go_call (λ y vs _ p. go_call (λ z ws _ q. go_done (λ s h.
     let read = p (omega arith) in let rest = q (fits.1, read.2, s, read.1) fits.0 in (rw (at, assignment_mark o n, read.0) rest.0, rest.1, rest.2)))))))
-rest-by t d l x ts e a_question is st on = let fits = allowed l 3 4 (level x) on in
+rest-by t d l x ts e (Some ix.Question) is st on = let fits = allowed l 3 4 (level x) on in
     go_rise (λ _ _. go_spend (λ _ _. go_take t.types k.Question (is ∙ st) tt (λ n us at. go_call (λ y vs _ p. go_expect k.Colon tt (λ m ns colon. go_call (λ w os _ o. go_call (λ z ws _ q. go_done (λ s h.
     let read = p (omega arith) in let last = o (omega arith) in let rest = q (fits.1, read.2, last.2, s, read.1, last.1) fits.0 in (rw (at, read.0, colon, last.0) rest.0, rest.1, rest.2)))))))))
-rest-by t d l x ts e (an_operator o) is st on = let fits = allowed l (op_level o) (op_level o) (level x) on in
+rest-by t d l x ts e (Some (ix.Operator o)) is st on = let fits = allowed l (op_level o) (op_level o) (level x) on in
     go_rise (λ _ _. go_spend (λ _ _. go_take t.types (operator_kind o) (is ∙ st) (operator_real o) (λ n us at. go_call (λ y vs _ p. go_call (λ z ws _ q. go_done (λ s h.
     let read = p (operator_low o) in let rest = q (fits.1, read.2, s, read.1) fits.0 in (rw (at, operator_mark o n, read.0) rest.0, rest.1, rest.2)))))))
-rest-by t d l x ts e an_index is st on = let fits = allowed l 16 16 (level x) on in
+rest-by t d l x ts e (Some ix.Index) is st on = let fits = allowed l 16 16 (level x) on in
     go_rise (λ _ _. go_spend (λ _ _. go_take t.types k.OpenBracket (is ∙ st) tt (λ n us at. go_call (λ y vs _ p. go_expect k.CloseBracket tt (λ m ns close. go_call (λ z ws _ q. go_done (λ s h.
     let read = p (omega arith) in let rest = q (fits.1, s, read.1) fits.0 in (rw (at, read.0, close) rest.0, rest.1, rest.2))))))))
-rest-by t d l x ts e a_call is st on = let fits = allowed l 16 16 (level x) on in
+rest-by t d l x ts e (Some ix.Call) is st on = let fits = allowed l 16 16 (level x) on in
     go_rise (λ _ _. go_spend (λ _ _. go_take t.types k.OpenParen (is ∙ st) tt (λ n us at. go_call (λ xs vs _ p. go_call (λ z ws _ q. go_done (λ s h.
     let rest = q (fits.1, s, p.1) fits.0 in (rw (at, p.0) rest.0, rest.1, rest.2)))))))
-rest-by t d l x ts e a_dot is st on = let fits = allowed l 16 16 (level x) on in
+rest-by t d l x ts e (Some ix.Dot) is st on = let fits = allowed l 16 16 (level x) on in
     go_rise (λ _ _. go_spend (λ _ _. go_take t.types k.Dot (is ∙ st) tt (λ n us at. go_a_name (λ m vs named ordinary. go_call (λ z ws _ q. go_done (λ s h.
     let rest = q (fits.1, ordinary, s) fits.0 in (rw (at, named) rest.0, rest.1, rest.2)))))))
-rest-by t d l x ts e an_arrow is st on = let fits = allowed l 16 16 (level x) on in
+rest-by t d l x ts e (Some ix.Arrow) is st on = let fits = allowed l 16 16 (level x) on in
     go_rise (λ _ _. go_spend (λ _ _. go_take t.types k.Arrow (is ∙ st) tt (λ n us at. go_a_name (λ m vs named ordinary. go_call (λ z ws _ q. go_done (λ s h.
     let rest = q (fits.1, ordinary, s) fits.0 in (rw (at, named) rest.0, rest.1, rest.2)))))))
-rest-by t d l x ts e (a_step_behind o) is st on = let fits = allowed l 16 16 (level x) on in
+rest-by t d l x ts e (Some (ix.Step o)) is st on = let fits = allowed l 16 16 (level x) on in
     go_rise (λ _ _. go_spend (λ _ _. go_take t.types (step_kind o) (is ∙ st) (step_real o) (λ n us at. go_call (λ z ws _ q. go_done (λ s h.
     let rest = q (fits.1, s) fits.0 in (rw (at, step_mark o n) rest.0, rest.1, rest.2))))))
 

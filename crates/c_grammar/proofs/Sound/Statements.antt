@@ -5,7 +5,7 @@ use Rattle.std.specs.Prelude.{IsTrue}
 use Rattle.c_tree.specs.Marks.{Tokens, name_token}
 use Rattle.c_tree.specs.TypeWords.{is_among}
 use Rattle.c_tree.specs.ExpressionShape.{ShapeExpression}
-use Rattle.c_tree.specs.Shape.{Place, of_branch, ends_open, ShapeStatement}
+use Rattle.c_tree.specs.Shape.{Context, of_branch, ends_open, ShapeStatement}
 use Rattle.c_tree.specs.Tree.{Name, Expression, name, StatementTree, declaration, expression_statement, if_statement}
 use Rattle.c_grammar.specs.declared.kind.Kind.{Kind}
 use Rattle.c_grammar.specs.declared.kind.Kind.TheVariants as k
@@ -29,46 +29,46 @@ IsNoElse _ = Unit {0}
 no_else : (e : Kind) (us : Tokens) → kind [] us ≡ e → IsNoElse e → kind [] us ≢ k.Else
 no_else e us is another same = subst IsNoElse (sym is ∙ same) another
 
-expressed-goes : (t : NameEnvironment) (d : ℕ) (p : Place) (o : ℕ) (ts : Tokens) → KeepsOn (a_statement t d p o) (expressed t d o) ts ts
+expressed-goes : (t : NameEnvironment) (d : ℕ) (p : Context) (o : ℕ) (ts : Tokens) → KeepsOn (a_statement t d p o) (expressed t d o) ts ts
 expressed-goes t d p o ts = go_call (λ x us _ h. go_expect k.Semicolon tt (λ n vs at. let r = h (omega arith) in go_done (cc, r.1, never)))
 
 -- an expression that begins with this name, which was read
 abbrev named_first : NameEnvironment → ℕ → Name → Reads StatementTree
 named_first t d n = spend 1 (d + 2) (scope (d + 2) (a_rest t (d + 1) 1 (name n)) (λ x. expect k.Semicolon (done (expression_statement (Some x)))))
 
-rest-goes : (t : NameEnvironment) (d : ℕ) (p : Place) (o : ℕ) (n : Name) (ts us : Tokens) → ts ≡ name_token n ∷ us → is_among t.types n ≡ false →
+rest-goes : (t : NameEnvironment) (d : ℕ) (p : Context) (o : ℕ) (n : Name) (ts us : Tokens) → ts ≡ name_token n ∷ us → is_among t.types n ≡ false →
     (follows : Bool) → KeepsOn (a_statement t d p o) (cond follows (named_first t d n) stop) ts us
 rest-goes t d p o n ts us at ordinary false = go_stop
 rest-goes t d p o n ts us at ordinary true =
     go_spend (λ y _. go_scope (λ x vs _ h. go_expect k.Semicolon tt (λ m ws here. let r = h ordinary (omega arith) in go_done (cc, r.1, never))))
 
-labelled-goes : (t : NameEnvironment) (d : ℕ) (p : Place) (o : ℕ) (n : Name) (ts us : Tokens) → ts ≡ name_token n ∷ us → is_among t.types n ≡ false → IsTrue p.in_block →
+labelled-goes : (t : NameEnvironment) (d : ℕ) (p : Context) (o : ℕ) (n : Name) (ts us : Tokens) → ts ≡ name_token n ∷ us → is_among t.types n ≡ false → IsTrue p.in_block →
     (e : Kind) → kind [] us ≡ e → KeepsOn (a_statement t d p o) (labelled_by t d n e) ts us
 labelled-goes t d p o n ts us at ordinary inside k.Colon is = go_take [] k.Colon is tt (λ m vs here. go_done (cc, (inside, ordinary), never))
 labelled-goes t d p o n ts us at ordinary inside e is = rest-goes t d p o n ts us at ordinary (follows_name e)
 
-unended-goes : (t : NameEnvironment) (d : ℕ) (p : Place) (o : ℕ) (x : Expression) (y : StatementTree) (ts us : Tokens) → ts ≡ onto_statement (if_statement x y) us →
+unended-goes : (t : NameEnvironment) (d : ℕ) (p : Context) (o : ℕ) (x : Expression) (y : StatementTree) (ts us : Tokens) → ts ≡ onto_statement (if_statement x y) us →
     ShapeExpression t.types x → ShapeStatement t.types y (of_branch p) → kind [] us ≢ k.Else → KeepsOn (a_statement t d p o) (done (if_statement x y)) ts us
 unended-goes t d p o x y ts us at tested shaped another = go_done (at, (tested, shaped), λ _. another)
 
-else-goes : (t : NameEnvironment) (d : ℕ) (p : Place) (o : ℕ) (x : Expression) (y : StatementTree) (ts us : Tokens) → ts ≡ onto_statement (if_statement x y) us →
+else-goes : (t : NameEnvironment) (d : ℕ) (p : Context) (o : ℕ) (x : Expression) (y : StatementTree) (ts us : Tokens) → ts ≡ onto_statement (if_statement x y) us →
     ShapeExpression t.types x → ShapeStatement t.types y (of_branch p) → (IsTrue (ends_open y) → kind [] us ≢ k.Else) → (e : Kind) → kind [] us ≡ e → KeepsOn (a_statement t d p o) (else_by t d p x y e) ts us
 else-goes t d p o x y ts us at tested shaped closes k.Else is =
     go_spend (λ m _. go_take [] k.Else is tt (λ n vs here. go_call (λ z ws _ q. go_done (cc, (false_from_ne_true (ends_open y) (λ ends. closes ends is), tested, shaped, q.1), q.2))))
 else-goes t d p o x y ts us at tested shaped closes _ is = unended-goes t d p o x y ts us at tested shaped (no_else _ us is tt)
 
 -- a declaration, which stands directly in a block
-abbrev declared : NameEnvironment → ℕ → Place → ℕ → Reads StatementTree
+abbrev declared : NameEnvironment → ℕ → Context → ℕ → Reads StatementTree
 declared t d p o = cond p.in_block (spend o (d + 1) (body.call (a_declaration t (d + 1)) (λ x. done (declaration x)))) stop
 
-declared-goes : (t : NameEnvironment) (d : ℕ) (p : Place) (o : ℕ) (ts : Tokens) → KeepsOn (a_statement t d p o) (declared t d p o) ts ts
+declared-goes : (t : NameEnvironment) (d : ℕ) (p : Context) (o : ℕ) (ts : Tokens) → KeepsOn (a_statement t d p o) (declared t d p o) ts ts
 declared-goes t d p o ts = go_if {b = p.in_block} (λ inside. go_spend (λ y _. go_call (λ x us _ h. go_done (h.0, (inside, h.1), never)))) (λ outer. go_stop)
 
-other-goes : (t : NameEnvironment) (d : ℕ) (p : Place) (o : ℕ) (ts : Tokens) (declares : Bool) → KeepsOn (a_statement t d p o) (cond declares (declared t d p o) (expressed t d o)) ts ts
+other-goes : (t : NameEnvironment) (d : ℕ) (p : Context) (o : ℕ) (ts : Tokens) (declares : Bool) → KeepsOn (a_statement t d p o) (cond declares (declared t d p o) (expressed t d o)) ts ts
 other-goes t d p o ts true = declared-goes t d p o ts
 other-goes t d p o ts false = expressed-goes t d p o ts
 
-statement-goes : (t : NameEnvironment) (d : ℕ) (p : Place) (o : ℕ) (ts : Tokens) (e : Kind) → kind t.types ts ≡ e → KeepsOn (a_statement t d p o) (statement_by t d p o e) ts ts
+statement-goes : (t : NameEnvironment) (d : ℕ) (p : Context) (o : ℕ) (ts : Tokens) (e : Kind) → kind t.types ts ≡ e → KeepsOn (a_statement t d p o) (statement_by t d p o e) ts ts
 statement-goes t d p o ts k.OpenBrace is =
     go_spend (λ y _. go_take t.types k.OpenBrace is tt (λ n us at. go_call (λ ss vs _ q. go_done (cc, q.1, never))))
 statement-goes t d p o ts k.Semicolon is = go_spend (λ y _. go_take t.types k.Semicolon is tt (λ n us at. go_done (at, tt, never)))
@@ -105,18 +105,18 @@ statement-goes t d p o ts k.Name is =
 statement-goes t d p o ts e is = other-goes t d p o ts (begins_declaration e)
 
 -- A statement's tokens are those that a statement of its shape spells, and none that ends with an open if goes on with else.
-pub a_statement-sound : (t : NameEnvironment) (d : ℕ) (p : Place) (o : ℕ) (ts : Tokens) → Keeps (a_statement t d p o) (rule (a_statement t d p o)) ts
+pub a_statement-sound : (t : NameEnvironment) (d : ℕ) (p : Context) (o : ℕ) (ts : Tokens) → Keeps (a_statement t d p o) (rule (a_statement t d p o)) ts
 a_statement-sound t d p o ts = go_look (λ e is. statement-goes t d p o ts e is)
 
-another-goes : (t : NameEnvironment) (d : ℕ) (p : Place) (ts : Tokens) → Keeps (all_statements t d p) (statements_by t d p k.Nothing) ts
+another-goes : (t : NameEnvironment) (d : ℕ) (p : Context) (ts : Tokens) → Keeps (all_statements t d p) (statements_by t d p k.Nothing) ts
 another-goes t d p ts = go_strict (λ x us _ h. go_call (λ xs vs _ q. go_done (cc, (h.1, q.1))))
 
-statements-goes : (t : NameEnvironment) (d : ℕ) (p : Place) (ts : Tokens) (e : Kind) → kind t.types ts ≡ e → Keeps (all_statements t d p) (statements_by t d p e) ts
+statements-goes : (t : NameEnvironment) (d : ℕ) (p : Context) (ts : Tokens) (e : Kind) → kind t.types ts ≡ e → Keeps (all_statements t d p) (statements_by t d p e) ts
 statements-goes t d p ts k.CloseBrace is = go_take t.types k.CloseBrace is tt (λ n us at. go_done (at, tt))
 statements-goes t d p ts _ is = another-goes t d p ts
 
 -- The tokens of a block's statements and its closing brace are those that statements of their shape spell.
-pub all_statements-sound : (t : NameEnvironment) (d : ℕ) (p : Place) (ts : Tokens) → Keeps (all_statements t d p) (rule (all_statements t d p)) ts
+pub all_statements-sound : (t : NameEnvironment) (d : ℕ) (p : Context) (ts : Tokens) → Keeps (all_statements t d p) (rule (all_statements t d p)) ts
 all_statements-sound t d p ts = go_look (λ e is. statements-goes t d p ts e is)
 
 -- ---- an expression and a token, or the token alone

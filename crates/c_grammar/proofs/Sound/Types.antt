@@ -1,14 +1,18 @@
 -- Types and their specifiers, structs and enums: what is read is spelled by a tree of its shape.
-use Rattle.std.proofs.Common.{◌≡◌, ℕ, ◌+◌, Bool, true, false, List, [], ◌∷◌, ◌++◌, IsTrue, codes, if◌then◌else◌, refl, sym, ap, subst, ◌∙◌, append_assoc, append-nil, arith}
+use Rattle.std.proofs.Common.{◌≡◌, ℕ, ◌+◌, Bool, true, false, List, [], ◌∷◌, ◌++◌, IsTrue, codes, if◌then◌else◌, refl, sym, ap, subst, ◌∙◌, append_assoc, append-nil, arith, Option, Some, None}
 use Rattle.c_tree.specs.Marks.{Tokens, name_token, mark}
-use Rattle.c_tree.specs.TypeWords.{TypeWord, of_whole, is_one_type, is_among, words_of, type_words}
+use Rattle.c_tree.specs.TypeWords.{is_one_type, is_among, words_of, type_words}
+use Rattle.c_tree.specs.declared.type_word.TypeWord.{TypeWord}
+use Rattle.c_tree.specs.declared.type_word.TypeWord.TheVariants as tw
 use Rattle.c_tree.specs.ExpressionShape.{HasEnumerator, ShapeSpecifier}
 use Rattle.c_tree.specs.Tree.{Name, Specifiers, specifiers, Specifier, type_name, Enumerators, no_enumerators, enumerator, enumerator_with}
 use Rattle.c_grammar.specs.declared.kind.Kind.{Kind}
 use Rattle.c_grammar.specs.declared.kind.Kind.TheVariants as k
 use Rattle.c_grammar.specs.Kind.{kind, token_of, IsReal}
 use Rattle.c_grammar.specs.Body.{done, stop, spend, call}
-use Rattle.c_grammar.specs.Rules.{NameEnvironment, Reads, a_type, all_specifiers, a_struct, all_members, more_members, an_enum, all_enumerators, more_enumerators, Start, no_specifier, a_qualifier, a_type_word, a_type_name, a_struct_word, an_enum_word, start_of, begins_type, ends_type, with_word, naming, barred, specifiers_by, struct_body_by, struct_by, more_members_by, enum_body_by, enum_by, enumerator_by, next_enumerator_by, more_enumerators_by, rule}
+use Rattle.c_grammar.specs.Rules.{NameEnvironment, Reads, a_type, all_specifiers, a_struct, all_members, more_members, an_enum, all_enumerators, more_enumerators, start_of, begins_type, ends_type, with_word, naming, barred, specifiers_by, struct_body_by, struct_by, more_members_by, enum_body_by, enum_by, enumerator_by, next_enumerator_by, more_enumerators_by, rule, qualifier_of, keyword_of, type_word}
+use Rattle.c_grammar.specs.declared.start.Start.{Start}
+use Rattle.c_grammar.specs.declared.start.Start.TheVariants as sp
 use Rattle.c_grammar.specs.Gauge.{free}
 use Rattle.c_grammar.proofs.Conditions.{Property, Goes, go_done, go_stop, go_look, go_spend, go_call, go_if, go_take, go_expect, go_a_name}
 use Rattle.c_grammar.proofs.KindLemmas.{kind_name, among_neither}
@@ -26,13 +30,13 @@ abbrev Spells : NameEnvironment → Specifier → List TypeWord → Kind → Typ
 Spells t x ws e = IsReal e × ((n : Name) (us : Tokens) → token_of e n ∷ us ≡ onto_specifier x us) × (words_of x ≡ ws) × ShapeSpecifier t.types x
 
 -- the kind of the token that specifiers begin with
-abbrev Starts : NameEnvironment → Start → Kind → Type 0
-Starts t no_specifier e = Unit {0}
-Starts t (a_qualifier x) e = Spells t x [] e
-Starts t (a_type_word w x) e = Spells t x (w ∷ []) e
-Starts t a_type_name e = e ≡ k.TypeName
-Starts t a_struct_word e = e ≡ k.Struct
-Starts t an_enum_word e = e ≡ k.Enum
+abbrev Starts : NameEnvironment → Option Start → Kind → Type 0
+Starts t None e = Unit {0}
+Starts t (Some (sp.Qualifier x)) e = Spells t (qualifier_of x) [] e
+Starts t (Some (sp.Keyword x)) e = Spells t (keyword_of x) (type_word x ∷ []) e
+Starts t (Some sp.TypeName) e = e ≡ k.TypeName
+Starts t (Some sp.Struct) e = e ≡ k.Struct
+Starts t (Some sp.Enum) e = e ≡ k.Enum
 
 starts : (t : NameEnvironment) (e : Kind) → Starts t (start_of e) e
 starts t k.Const = (tt, (λ n us. refl), refl, tt)
@@ -63,18 +67,18 @@ with-word t d b ws w f ts h = go_if {b = is_one_type (ws ++ w ∷ [])} (λ on. h
 behind : (ws vs : List TypeWord) (x : Specifier) (xs : Specifiers) → words_of x ≡ vs → IsTrue (is_one_type ((ws ++ vs) ++ type_words xs)) → IsTrue (is_one_type (ws ++ type_words (specifiers x xs)))
 behind ws vs x xs e h = subst (λ us. IsTrue (is_one_type us)) (append_assoc ws vs (type_words xs) ∙ ap (λ us. ws ++ (us ++ type_words xs)) (sym e)) h
 
-specifiers-by : (t : NameEnvironment) (d : ℕ) (b : Bool) (ws : List TypeWord) (ts : Tokens) (e : Kind) (i : Start) → kind t.types ts ≡ e → Starts t i e → Keeps (all_specifiers t d b ws) (specifiers_by t d b ws i) ts
-specifiers-by t d b ws ts e no_specifier is st = ends t d b ws ts
-specifiers-by t d b ws ts e (a_qualifier x) is st = go_take t.types e is st.0 (λ n us at. go_call (λ xs vs _ p.
-    go_done (rw (at, p.0) (st.1 _ _), (st.3, p.1), behind ws [] x xs st.2 (rw append-nil p.2))))
-specifiers-by t d b ws ts e (a_type_word w x) is st = with-word t d b ws w _ ts (go_naming b d (go_take t.types e is st.0 (λ n us at. go_call (λ xs vs _ p.
-    go_done (rw (at, p.0) (st.1 _ _), (st.3, p.1), behind ws (w ∷ []) x xs st.2 p.2)))))
-specifiers-by t d b ws ts e a_type_name is st = with-word t d b ws of_whole _ ts (go_naming b d (go_take t.types k.TypeName (is ∙ st) tt (λ n us at. go_call (λ xs vs _ p.
-    go_done (rw (at, p.0) refl, (types_among t.types n us (is_among t.types n) refl (rw at at (is ∙ st)), p.1), behind ws (of_whole ∷ []) (type_name n) xs refl p.2)))))
-specifiers-by t d b ws ts e a_struct_word is st = with-word t d b ws of_whole _ ts (go_take t.types k.Struct (is ∙ st) tt (λ n us at. go_call (λ x vs _ o. go_call (λ xs os _ p.
-    go_done (rw (at, ← p.0) o.0, (o.1, p.1), behind ws (of_whole ∷ []) x xs o.2 p.2)))))
-specifiers-by t d b ws ts e an_enum_word is st = with-word t d b ws of_whole _ ts (go_take t.types k.Enum (is ∙ st) tt (λ n us at. go_call (λ x vs _ o. go_call (λ xs os _ p.
-    go_done (rw (at, ← p.0) o.0, (o.1, p.1), behind ws (of_whole ∷ []) x xs o.2 p.2)))))
+specifiers-by : (t : NameEnvironment) (d : ℕ) (b : Bool) (ws : List TypeWord) (ts : Tokens) (e : Kind) (i : Option Start) → kind t.types ts ≡ e → Starts t i e → Keeps (all_specifiers t d b ws) (specifiers_by t d b ws i) ts
+specifiers-by t d b ws ts e None is st = ends t d b ws ts
+specifiers-by t d b ws ts e (Some (sp.Qualifier x)) is st = go_take t.types e is st.0 (λ n us at. go_call (λ xs vs _ p.
+    go_done (rw (at, p.0) (st.1 _ _), (st.3, p.1), behind ws [] (qualifier_of x) xs st.2 (rw append-nil p.2))))
+specifiers-by t d b ws ts e (Some (sp.Keyword x)) is st = with-word t d b ws (type_word x) _ ts (go_naming b d (go_take t.types e is st.0 (λ n us at. go_call (λ xs vs _ p.
+    go_done (rw (at, p.0) (st.1 _ _), (st.3, p.1), behind ws (type_word x ∷ []) (keyword_of x) xs st.2 p.2)))))
+specifiers-by t d b ws ts e (Some sp.TypeName) is st = with-word t d b ws tw.Whole _ ts (go_naming b d (go_take t.types k.TypeName (is ∙ st) tt (λ n us at. go_call (λ xs vs _ p.
+    go_done (rw (at, p.0) refl, (types_among t.types n us (is_among t.types n) refl (rw at at (is ∙ st)), p.1), behind ws (tw.Whole ∷ []) (type_name n) xs refl p.2)))))
+specifiers-by t d b ws ts e (Some sp.Struct) is st = with-word t d b ws tw.Whole _ ts (go_take t.types k.Struct (is ∙ st) tt (λ n us at. go_call (λ x vs _ o. go_call (λ xs os _ p.
+    go_done (rw (at, ← p.0) o.0, (o.1, p.1), behind ws (tw.Whole ∷ []) x xs o.2 p.2)))))
+specifiers-by t d b ws ts e (Some sp.Enum) is st = with-word t d b ws tw.Whole _ ts (go_take t.types k.Enum (is ∙ st) tt (λ n us at. go_call (λ x vs _ o. go_call (λ xs os _ p.
+    go_done (rw (at, ← p.0) o.0, (o.1, p.1), behind ws (tw.Whole ∷ []) x xs o.2 p.2)))))
 
 -- specifiers behind those of some words
 pub all_specifiers-sound : (t : NameEnvironment) (d : ℕ) (b : Bool) (ws : List TypeWord) (ts : Tokens) → Keeps (all_specifiers t d b ws) (rule (all_specifiers t d b ws)) ts

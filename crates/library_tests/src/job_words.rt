@@ -1,5 +1,5 @@
-use crate::{Depth, Job, asked};
 use base_core::Rules;
+use command_words::{Depth, Job, asked};
 use std::alloc::Global;
 use std::test::Fail;
 

@@ -1,8 +1,8 @@
 //! Texts with their tokens or their fault, worked out by hand. A token is shown as the letter of its class, its bytes
 //! and its place; `.` is the end of the text. A byte past 127 is shown as its code.
 
-use crate::{LexFault, Tokens, scan};
 use base_core::{Class, MOST_BYTES, Place};
+use c_lexer::{LexFault, Tokens, scan};
 use std::alloc::{AllocError, Global};
 
 const BLANKS_AND_COMMENTS: [(&[u8], &str); 29] = [

@@ -1,4 +1,4 @@
-use super::*;
+use posix_table::{Table, profile, profile_later, table_text};
 use std::test::Fail;
 
 /// Whether the rows of these names stand in the table, with these marks of safety and places.

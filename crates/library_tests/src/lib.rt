@@ -31,5 +31,6 @@ mod signal_sets;
 #[cfg(test)]
 mod states;
 #[cfg(test)]
-mod value_tables;
 mod token_texts;
+#[cfg(test)]
+mod value_tables;

@@ -53,8 +53,8 @@ initialised_by env n (Some i) = if at_file_scope env then with_initialised env n
 abbrev pub behind_named : Environment → Storage → DeclaredType → NamedTree → Environment
 behind_named env storage t n =
     behind_optional_initializer
-        (initialised_by (with_name (behind_declarator env n.declarator) storage (declarator_name n.declarator) (declared env t n.declarator)) (declarator_name n.declarator) n.init)
-        n.init
+    (initialised_by (with_name (behind_declarator env n.declarator) storage (declarator_name n.declarator) (declared env t n.declarator)) (declarator_name n.declarator) n.init)
+    n.init
 
 abbrev pub behind_names : Environment → Storage → DeclaredType → List NamedTree → Environment
 behind_names env storage t [] = env

@@ -10,14 +10,14 @@ use Rattle.c_tree.specs.Tree.{ItemTree, function_item, declaration_item}
 use Rattle.c_tree.specs.Behind.{behind_item}
 use Rattle.flow_form.specs.declared.edge.Edge.{Edge}
 use Rattle.flow_form.specs.declared.edge.Use.{Use}
-use Rattle.flow_form.specs.Laws.{IsOrdered, IsInOrder, IsClosed, IsLate}
+use Rattle.flow_form.specs.Laws.{IsOrdered, IsInOrder, IsClosed, IsLate, EdgesStay}
 use Rattle.flow_form.specs.Pending.{is_leave, leave_row, waits, is_awaited_in, is_awaited, is_number, gives_in, is_given}
 use Rattle.flow_form.specs.Positions.{Ways, enter, leave}
 use Rattle.flow_form.specs.Statements.{function_ways, items_ways, program_ways}
 use Rattle.flow_form.specs.Table.{phase_number, number, found, hit, or_else, edges, has}
 use Rattle.flow_form.specs.Typing.{Typing}
 use Rattle.flow_form.proofs.Fine.{Ahead, Given, IsSource, Fine, items_fine}
-use Rattle.flow_form.proofs.FunctionStays.{Has, all_there, function_stays}
+use Rattle.flow_form.proofs.FunctionStays.{Has, all_there, function_stays, edges_stay}
 use Rattle.flow_form.proofs.Stays.{At, Targets, Stays, at_left, at_right, stays_append}
 
 hit_step : (G : Ways → Type 0) (k : ℕ) (x r : Ways) (b : Bool) → nat_eq (number x.source.at) k ≡ b → (number x.source.at ≡ k → G x) → cond b (Some x) None ≡ Some r → G r
@@ -112,3 +112,7 @@ late t items n f h =
     let rows = program_ways t items in
     late_all (has rows (enter f)) (is_awaited rows n (enter f)) (is_given rows n (enter f)) (nat_eq f n)
     (late_awaited rows n f (leave_row rows n) (items_fine t 1 items) h refl) (late_given rows n f (found (number (enter f)) rows) (items_fine t 1 items) refl)
+
+pub edges_stay_there : EdgesStay
+edges_stay_there t n f p =
+    let rows = function_ways t n f in closed_at (number p) rows (found (number p) rows) (edges_stay t n f) refl

@@ -7,3 +7,5 @@ pub mod FunctionStays
 pub mod Fine
 pub mod Laws
 pub mod Examples
+pub mod Compute
+pub mod Computed

@@ -15,6 +15,7 @@ mod expressions;
 mod functions;
 mod jumps;
 mod labels;
+mod law;
 mod loops;
 mod meaning;
 mod positions;
@@ -26,5 +27,6 @@ mod walk;
 
 pub use build::flow;
 pub use edge::{Edge, Guard, Row, Source, Use};
+pub use law::edges_stay_in_their_function;
 pub use meaning::{Call, Callee, Meaning, Names};
 pub use positions::Flow;

@@ -5,6 +5,8 @@
 #[cfg(test)]
 mod contexts;
 #[cfg(test)]
+mod environment;
+#[cfg(test)]
 mod facts;
 #[cfg(test)]
 mod flat_reading;

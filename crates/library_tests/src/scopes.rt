@@ -67,3 +67,40 @@ fn inner_blocks_hide_outer_ones(rt: HostRuntime) -> Result<(), Fail> {
     assert!(rt; hides(&mut scope));
     Ok(())
 }
+
+/// Whether a name that is declared around the innermost block is hidden in it, and stands when it ends.
+fn stands_around(scope: &mut Scope) -> Result<bool, AllocError> {
+    scope.declare(b"a", 1)?;
+    scope.enter()?;
+    scope.declare(b"b", 2)?;
+    scope.declare(b"a", 3)?;
+    scope.declare_around(b"a", 4)?;
+    scope.declare_around(b"c", 5)?;
+    let inside = says(
+        scope,
+        &[
+            (b"a", Some(3), Some(3)),
+            (b"b", Some(2), Some(2)),
+            (b"c", None, Some(5)),
+        ],
+    );
+    scope.leave();
+    Ok(
+        inside
+            && says(
+                scope,
+                &[
+                    (b"a", Some(4), Some(4)),
+                    (b"b", None, None),
+                    (b"c", Some(5), Some(5)),
+                ],
+            ),
+    )
+}
+
+#[test]
+fn a_name_is_declared_around_a_block(rt: HostRuntime) -> Result<(), Fail> {
+    let mut scope = Scope::new(rt.alloc());
+    assert!(rt; stands_around(&mut scope)?);
+    Ok(())
+}

@@ -46,7 +46,7 @@ mutual
   expression_aligned rows env (size_of_type t) = ap suc (type_aligned rows env t)
   expression_aligned rows env (index x y) = pair rows env x y (expression_aligned rows env x) (expression_aligned rows (behind_expression env x) y)
   expression_aligned rows env (call f xs) =
-      ap suc (two (node (as_callee env f (operand rows env f)).judged (below rows env f)) (said_expressions rows (behind_expression env f) xs) (nodes_expression f) (nodes_expressions xs) (expression_aligned rows env f) (expressions_aligned rows (behind_expression env f) xs))
+      ap suc (two (node (as_callee (behind_expression env f) f (operand rows env f)).judged (below rows env f)) (said_expressions rows (behind_expression env f) xs) (nodes_expression f) (nodes_expressions xs) (expression_aligned rows env f) (expressions_aligned rows (behind_expression env f) xs))
   expression_aligned rows env (dot x m) = ap suc (expression_aligned rows env x)
   expression_aligned rows env (arrow x m) = ap suc (expression_aligned rows env x)
   expression_aligned rows env (after o x) = ap suc (expression_aligned rows env x)

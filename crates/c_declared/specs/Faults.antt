@@ -5,17 +5,12 @@ use Rattle.c_tree.specs.Tree.{Name, Stars, TypeTree, typed, Specifiers, no_speci
 use Rattle.c_environment.specs.Entity.{DeclaredType, Structure}
 use Rattle.c_environment.specs.Environment.{Environment, tag, tag_here, structure as structure_at, entered}
 use Rattle.c_environment.specs.Types.{specified, pointed}
-use Rattle.c_environment.specs.Behind.{opened, behind_specifiers, behind_declarators, behind_sizes, behind_form, bare}
+use Rattle.c_environment.specs.Behind.{opened, behind_specifiers, behind_declarators, behind_sizes, behind_specifier, behind_bare, behind_form, bare}
 use Rattle.c_rules.specs.Declarations.{object_misfit, passed_misfit}
+use Rattle.c_declared.specs.declared.faults.Faults.{Faults}
 
 -- Which rules are broken: an object has the type of a tag that isn't declared; a tag is declared twice, or as a structure and as an
 -- enumeration; a structure or a sigset_t is passed or returned by value; an object's type isn't complete, or is void or a function's.
-pub record Faults : Type 0 where
-  pub unknown : Bool
-  pub repeated : Bool
-  pub passed : Bool
-  pub incomplete : Bool
-
 abbrev pub no_faults : Faults
 no_faults = record { unknown = false; repeated = false; passed = false; incomplete = false }
 
@@ -80,12 +75,13 @@ incomplete_type env t = is_some (object_misfit (is_complete env (innermost t.kin
 abbrev pub is_passed : Kind → Bool
 is_passed k = is_some (passed_misfit k)
 
--- an object with these specifiers, or a parameter: whether it has their type itself, without a star, and the type that it has
-abbrev pub object_faults : Environment → Specifiers → Bool → DeclaredType → Faults
-object_faults env ws is_own t = record { unknown = is_own && tag_unknown env ws; repeated = false; passed = false; incomplete = incomplete_type env t }
+-- An object with these specifiers, or a parameter, before its declarator and behind it: whether it has their type itself, without a star, and
+-- the type that it has. Its tag is declared before, its type is complete behind (6.7p7).
+abbrev pub object_faults : Environment → Environment → Specifiers → Bool → DeclaredType → Faults
+object_faults env further ws is_own t = record { unknown = is_own && tag_unknown env ws; repeated = false; passed = false; incomplete = incomplete_type further t }
 
-abbrev pub parameter_faults : Environment → Specifiers → Bool → DeclaredType → Faults
-parameter_faults env ws is_own t = record (object_faults env ws is_own t) { passed = is_passed t.kind }
+abbrev pub parameter_faults : Environment → Environment → Specifiers → Bool → DeclaredType → Faults
+parameter_faults env further ws is_own t = record (object_faults env further ws is_own t) { passed = is_passed t.kind }
 
 abbrev pub result_faults : DeclaredType → Faults
 result_faults t = record no_faults { passed = is_passed t.kind }
@@ -109,7 +105,7 @@ is_own_bare (bare_pointer ss qs ps v) = false
 abbrev mutual
   pub faults_specifiers : Environment → Specifiers → Faults
   faults_specifiers env no_specifiers = no_faults
-  faults_specifiers env (specifiers w ws) = faults_of_both (faults_specifier env w) (faults_specifiers env ws)
+  faults_specifiers env (specifiers w ws) = faults_of_both (faults_specifier env w) (faults_specifiers (behind_specifier env w) ws)
 
   -- the members of a structure are nodes of their own, their specifiers are not
   pub faults_specifier : Environment → Specifier → Faults
@@ -134,7 +130,9 @@ abbrev mutual
   faults_form env ws (named_form d) = no_faults
   faults_form env ws (bare_form b) =
       faults_of_both (faults_specifiers env ws)
-      (faults_of_both (parameter_faults env ws (is_own_bare b) (bare (behind_specifiers env ws) (specified env ws) b)) (faults_bare (behind_specifiers env ws) (specified env ws) b))
+      (faults_of_both
+      (parameter_faults (behind_specifiers env ws) (behind_bare (behind_specifiers env ws) b) ws (is_own_bare b) (bare (behind_specifiers env ws) (specified env ws) b))
+      (faults_bare (behind_specifiers env ws) (specified env ws) b))
 
   pub faults_bare : Environment → DeclaredType → BareTree → Faults
   faults_bare env t (bare_stars ss) = no_faults

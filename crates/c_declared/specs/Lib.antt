@@ -4,3 +4,5 @@ pub mod Operands
 pub mod Faults
 pub mod Sizes
 pub mod Nodes
+pub mod Seen
+pub mod Ends

@@ -3,7 +3,6 @@
 -- leaves out; what has to be constant is; its kinds fit.
 use Rattle.std.specs.Prelude.{List, [], ◌∷◌, Option, Some, None, ℤ, Bool, false, not, ◌||◌, is_some, is_none, if◌then◌else◌}
 use Rattle.c_kinds.specs.Kind.{Kind}
-use Rattle.c_scopes.specs.Scope.{look_up}
 use Rattle.c_tree.specs.Tree.{Name, Expression, comma, assign, choose, binary, cast, unary, before, size_of, size_of_type, index, call, dot, arrow, after, name, integer, character, text, paren, Expressions, no_expressions, expressions, Sizes, no_sizes, open_size, size, TypeTree, typed, Specifiers, no_specifiers, specifiers, Specifier, struct_of, enum_of, Members as MemberTrees, no_members, member, Declarators, no_declarators, declarators, Enumerators, no_enumerators, enumerator, enumerator_with, DeclaratorTree, plain, array, function, pointer, Parameters, no_parameters, parameters, ParameterForm, named_form, bare_form, BareTree, bare_stars, bare_pointer}
 use Rattle.c_tree.specs.DeclaredNames.{declarator_name}
 use Rattle.c_constants.specs.Constants as constants
@@ -24,7 +23,8 @@ use Rattle.c_rules.specs.Access as access
 use Rattle.c_rules.specs.Conversions as conversions
 use Rattle.c_declared.specs.Said.{Said, nothing, both, node, once}
 use Rattle.c_declared.specs.Operands.{Rows, valued, placed, named_operand, row_of, called, as_callee, member_kind, pointed_member}
-use Rattle.c_declared.specs.Faults.{Faults, faults_of_both, faults_specifiers, faults_declarator, faults_type, object_faults, parameter_faults, is_own}
+use Rattle.c_declared.specs.declared.faults.Faults.{Faults}
+use Rattle.c_declared.specs.Faults.{faults_of_both, faults_specifiers, faults_declarator, faults_type, object_faults, parameter_faults, is_own}
 use Rattle.c_declared.specs.Sizes.{are_sizes, sizes_of, are_given, are_given_behind_first}
 
 abbrev pub broken : Bool → MisfitKind → Option MisfitKind
@@ -47,15 +47,15 @@ type_rule f j =
 -- a member (6.7.2.1): its name is declared once in its structure
 abbrev pub member_rule : Environment → Members → Specifiers → DeclaredType → DeclaratorTree → Judgement
 member_rule env earlier ws t d =
-    declared_rule (faults_of_both (object_faults env ws (is_own d) (declared env t d)) (faults_declarator env t d))
-    (is_some (look_up earlier.names (declarator_name d))) (are_sizes env (sizes_of d)) (are_given (sizes_of d)) (declared env t d).kind
+    declared_rule (faults_of_both (object_faults env (behind_declarator env d) ws (is_own d) (declared env t d)) (faults_declarator env t d))
+    (is_some (e.member earlier (declarator_name d))) (are_sizes env (sizes_of d)) (are_given (sizes_of d)) (declared env t d).kind
 
 -- a parameter with a name (6.7.6.3), behind its specifiers
 abbrev pub parameter_rule : Environment → Environment → Specifiers → DeclaredType → DeclaratorTree → Judgement
 parameter_rule outside env ws t d =
     declared_rule
-    (faults_of_both (faults_specifiers outside ws) (faults_of_both (parameter_faults env ws (is_own d) (adjusted (declared env t d))) (faults_declarator env t d)))
-    (is_declared_here env (declarator_name d)) (are_sizes env (sizes_of d)) (are_given_behind_first (sizes_of d)) (adjusted (declared env t d)).kind
+    (faults_of_both (faults_specifiers outside ws) (faults_of_both (parameter_faults env (behind_declarator env d) ws (is_own d) (adjusted (declared env t d))) (faults_declarator env t d)))
+    (is_declared_here (behind_declarator env d) (declarator_name d)) (are_sizes env (sizes_of d)) (are_given_behind_first (sizes_of d)) (adjusted (declared env t d)).kind
 
 -- an enumerator (6.7.2.2): a constant's name is none of the implementation's, and its value is one of int
 abbrev pub enumerator_rule : Environment → Name → Option ℤ → Judgement
@@ -78,10 +78,10 @@ abbrev mutual
   operand rows env (size_of_type t) = valued (once (said_type rows env t) (type_rule (faults_type env t) conversions.size_of_type))
   operand rows env (index x y) =
       placed (access.index (operand rows env x) (operand rows (behind_expression env x) y)) (form.index_form (operand rows env x))
-  operand rows env (call f xs) = valued (called (row_of rows env f) (as_callee env f (operand rows env f)) (operands rows (behind_expression env f) xs))
+  operand rows env (call f xs) = valued (called (row_of rows env f) (as_callee (behind_expression env f) f (operand rows env f)) (operands rows (behind_expression env f) xs))
   operand rows env (dot x m) =
-      placed (access.dot (member_kind env m (kind (operand rows env x).judged)) (operand rows env x)) (form.dot_form (operand rows env x).form)
-  operand rows env (arrow x m) = placed (access.arrow (pointed_member env m (kind (operand rows env x).judged)) (operand rows env x)) form.arrow_form
+      placed (access.dot (member_kind (behind_expression env x) m (kind (operand rows env x).judged)) (operand rows env x)) (form.dot_form (operand rows env x).form)
+  operand rows env (arrow x m) = placed (access.arrow (pointed_member (behind_expression env x) m (kind (operand rows env x).judged)) (operand rows env x)) form.arrow_form
   operand rows env (after o x) = valued (values.step (operand rows env x))
   operand rows env (name n) = named_operand env n false
   operand rows env (integer z) = placed (names.integer z) (form.integer_form z)
@@ -107,7 +107,7 @@ abbrev mutual
   below rows env (size_of x) = node (operand rows env x).judged (below rows env x)
   below rows env (size_of_type t) = said_type rows env t
   below rows env (index x y) = both (node (operand rows env x).judged (below rows env x)) (node (operand rows (behind_expression env x) y).judged (below rows (behind_expression env x) y))
-  below rows env (call f xs) = both (node (as_callee env f (operand rows env f)).judged (below rows env f)) (said_expressions rows (behind_expression env f) xs)
+  below rows env (call f xs) = both (node (as_callee (behind_expression env f) f (operand rows env f)).judged (below rows env f)) (said_expressions rows (behind_expression env f) xs)
   below rows env (dot x m) = node (operand rows env x).judged (below rows env x)
   below rows env (arrow x m) = node (operand rows env x).judged (below rows env x)
   below rows env (after o x) = node (operand rows env x).judged (below rows env x)

@@ -18,12 +18,12 @@ abbrev pub Rows : Type 0
 Rows = List Row
 
 -- the kind of the member of a structure (6.5.2.3p1)
-abbrev pub member_of : Environment → Name → Option Structure → Option Kind
-member_of env m None = None
-member_of env m (Some s) = member s.members m
+abbrev pub member_of : Name → Option Structure → Option Kind
+member_of m None = None
+member_of m (Some s) = member s.members m
 
 abbrev pub member_kind : Environment → Name → Option Kind → Option Kind
-member_kind env m (Some (structure k)) = member_of env m (structure_at env k)
+member_kind env m (Some (structure k)) = member_of m (structure_at env k)
 member_kind env m _ = None
 
 -- of what a pointer points to, as which an array stands

@@ -20,7 +20,8 @@ use Rattle.c_rules.specs.Judgement.{Judgement, fits, silent, unless}
 use Rattle.c_rules.specs.Values.{initialiser_misfit}
 use Rattle.c_declared.specs.Said.{Said, nothing, both, node, formless, once}
 use Rattle.c_declared.specs.Operands.{Rows}
-use Rattle.c_declared.specs.Faults.{Faults, faults_of_both, faults_specifiers, faults_declarator, object_faults, is_own, names_enumeration, repeated_if}
+use Rattle.c_declared.specs.declared.faults.Faults.{Faults}
+use Rattle.c_declared.specs.Faults.{faults_of_both, faults_specifiers, faults_declarator, object_faults, is_own, names_enumeration, repeated_if}
 use Rattle.c_declared.specs.Sizes.{are_sizes, sizes_of, are_given, are_given_behind_first}
 use Rattle.c_declared.specs.Nodes.{operand, said_specifiers, said_declarator, broken}
 use Rattle.c_judged.specs.Initializers.{is_static_initializer, said_initializer}
@@ -99,7 +100,7 @@ is_function_form _ = false
 abbrev pub named_faults : Environment → Storage → Specifiers → DeclaredType → DeclaratorTree → Faults
 named_faults env st.Typedef ws t d = faults_declarator env t d
 named_faults env storage ws t d =
-    if is_function_form d then faults_declarator env t d else faults_of_both (object_faults env ws (is_own d) (declared env t d)) (faults_declarator env t d)
+    if is_function_form d then faults_declarator env t d else faults_of_both (object_faults env (behind_declarator env d) ws (is_own d) (declared env t d)) (faults_declarator env t d)
 
 -- it is initialised as an object of static storage duration
 abbrev pub is_lasting : Environment → Storage → Bool

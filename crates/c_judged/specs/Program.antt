@@ -16,7 +16,8 @@ use Rattle.c_rules.specs.Judgement.{Judgement, fits, silent, unless, first_misfi
 use Rattle.c_rules.specs.Declarations.{main_misfit}
 use Rattle.c_declared.specs.Said.{Said, nothing, both, node, once}
 use Rattle.c_declared.specs.Operands.{Rows}
-use Rattle.c_declared.specs.Faults.{Faults, faults_of_both, faults_specifiers, faults_parameters, result_faults}
+use Rattle.c_declared.specs.declared.faults.Faults.{Faults}
+use Rattle.c_declared.specs.Faults.{faults_of_both, faults_specifiers, faults_parameters, result_faults}
 use Rattle.c_declared.specs.Nodes.{said_specifiers, said_parameters, broken}
 use Rattle.c_judged.specs.Declarations.{is_taken, differs, entity_at, kind_of, said_declaration}
 use Rattle.c_judged.specs.Statements.{Body, labels, no_cases, said_statement, said_statements}

@@ -4,7 +4,7 @@ use Rattle.c_kinds.specs.Kind.{Kind, structure, innermost}
 use Rattle.c_tree.specs.Tree.{Name, Stars, TypeTree, typed, Specifiers, no_specifiers, specifiers, Specifier, struct_tag, struct_of, enum_tag, enum_of, Members, no_members, member, DeclaratorTree, plain, array, function, pointer, Parameters, no_parameters, parameters, ParameterForm, named_form, bare_form, BareTree, bare_stars, bare_pointer}
 use Rattle.c_environment.specs.Entity.{DeclaredType, Structure}
 use Rattle.c_environment.specs.Environment.{Environment, tag, tag_here, structure as structure_at, entered}
-use Rattle.c_environment.specs.Types.{specified, pointed}
+use Rattle.c_environment.specs.Types.{specified, pointed, adjusted}
 use Rattle.c_environment.specs.Behind.{opened, behind_specifiers, behind_declarators, behind_sizes, behind_specifier, behind_bare, behind_form, bare}
 use Rattle.c_rules.specs.Declarations.{object_misfit, passed_misfit}
 use Rattle.c_declared.specs.declared.faults.Faults.{Faults}
@@ -131,7 +131,7 @@ abbrev mutual
   faults_form env ws (bare_form b) =
       faults_of_both (faults_specifiers env ws)
       (faults_of_both
-      (parameter_faults (behind_specifiers env ws) (behind_bare (behind_specifiers env ws) b) ws (is_own_bare b) (bare (behind_specifiers env ws) (specified env ws) b))
+      (parameter_faults (behind_specifiers env ws) (behind_bare (behind_specifiers env ws) b) ws (is_own_bare b) (adjusted (bare (behind_specifiers env ws) (specified env ws) b)))
       (faults_bare (behind_specifiers env ws) (specified env ws) b))
 
   pub faults_bare : Environment → DeclaredType → BareTree → Faults

@@ -142,7 +142,7 @@ abbrev mutual
 
   pub parameter_type : Environment → DeclaredType → ParameterForm → DeclaredType
   parameter_type env t (named_form d) = adjusted (declared env t d)
-  parameter_type env t (bare_form b) = bare env t b
+  parameter_type env t (bare_form b) = adjusted (bare env t b)
 
   pub bare : Environment → DeclaredType → BareTree → DeclaredType
   bare env t (bare_stars ss) = pointed ss t

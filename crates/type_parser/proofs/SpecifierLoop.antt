@@ -21,7 +21,7 @@ use Rattle.c_grammar.specs.Gives.{Fails}
 use Rattle.c_grammar.specs.Lists.{mapped, before}
 use Rattle.c_grammar.specs.Performing.{perform, at}
 use Rattle.c_grammar.proofs.Joining.{tail_mapped, then_fails, perform_leaves}
-use Rattle.c_grammar.proofs.Loops.{Turn, Loop, loop_begins}
+use Rattle.c_grammar.proofs.Loops.{Turn}
 use Rattle.c_grammar.proofs.Opens.{specifiers_performs}
 use Rattle.c_grammar.proofs.Shorter.{Leaves, paid_leaves}
 use Rattle.c_grammar.specs.declared.start.Start.{Start}
@@ -156,9 +156,3 @@ followed here there old new o x h some is = subst (λ z. Follows (start_of z) ol
 
 pub ends_here : (here there : Kind) (old new : List TypeWord) (o : Option Start) → Goes (start_of here) old o new → o ≡ None → here ≡ there → Ends (start_of there) old new
 ends_here here there old new o h none is = subst (λ z. Ends (start_of z) old new) is (subst (λ z. Goes (start_of here) old z new) none h)
-
--- nothing was read
-pub specifiers_begin : (t : NameEnvironment) (d : ℕ) (b : Bool) (i : Input) (ws : List TypeWord) (xs : List Specifier) → xs ≡ [] → ws ≡ [] →
-    Loop specifiers xs (read (all_specifiers t d b ws) i) (read (all_specifiers t d b []) i)
-specifiers_begin t d b i ws xs none first =
-    subst (λ z. Loop specifiers xs (read (all_specifiers t d b z) i) (read (all_specifiers t d b []) i)) (sym first) (loop_begins xs (read (all_specifiers t d b []) i) none)

@@ -40,7 +40,10 @@ type_pointed t d ss qs n = pointed (inside true n t) d ss qs n
 abbrev pub type_pointer_from : NameEnvironment → ℕ → Stars → Reads DeclaratorTree
 type_pointer_from t d ss = expect k.Star (body.call all_quals (λ qs. a_new_name t (type_pointed t d ss qs)))
 
--- the same without a name
+-- the same without a name: its qualifiers and its parameters
+abbrev pub behind_bare : NameEnvironment → ℕ → Reads (Quals × (Parameters × Bool))
+behind_bare t d = expect k.Star (body.call all_quals (λ qs. expect k.CloseParen (expect k.OpenParen (body.call (all_parameters t d) (λ ps. done (qs, ps))))))
+
 abbrev pub bare_pointer_from : NameEnvironment → ℕ → Stars → Reads BareTree
 bare_pointer_from t d ss =
     expect k.Star (body.call all_quals (λ qs. expect k.CloseParen (expect k.OpenParen (body.call (all_parameters t d) (λ ps. done (bare_pointer ss qs ps.0 ps.1))))))

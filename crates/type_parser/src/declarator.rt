@@ -1,14 +1,15 @@
 //! Declarators.
 
-ghost use Rattle.std.specs.Prelude.{◌≤◌, [], false, map, option_map};
+ghost use Rattle.std.specs.Prelude.{◌≤◌, [], true, false, map, option_map};
 ghost use Rattle.c_tree.specs.View.{view_expression, view_declarator, view_parameters, view_bare, sizes_of};
+ghost use Rattle.c_grammar.specs.declared.kind.Kind.TheVariants as k;
 ghost use Rattle.c_grammar.specs.Body.{look};
 ghost use Rattle.c_grammar.specs.Performing.{perform};
 ghost use Rattle.c_grammar.specs.Reading.{read};
 ghost use Rattle.c_grammar.specs.Rules.{all_sizes, at_most_one_size, a_declarator, a_bare, a_new_name, declared_by, pointed};
 ghost use Rattle.c_grammar.specs.Gives.{Gives};
 ghost use Rattle.expression_parser.specs.Nests.{Nests};
-ghost use Rattle.type_parser.specs.DeclaratorParts.{bracketed, behind_pointer, pointer_from, bare_pointer_from};
+ghost use Rattle.type_parser.specs.DeclaratorParts.{bracketed, behind_pointer, pointer_from, behind_bare, bare_pointer_from};
 
 use crate::pointer::{quals, stars};
 use base_core::Lexeme;
@@ -97,8 +98,63 @@ pub fn one_size<
     }
 }
 
+/// An array, behind its name.
+#[tactic(auto, using(c_tree::proofs::ViewLemmas::view_Declarator_Array))]
+fn array<
+    F: Fn(
+        Global,
+        &NameEnvironment<'_>,
+        &mut Cursor<'_>,
+        usize,
+        u32,
+        Nested,
+    ) -> Result<Found, Refusal>,
+>(
+    grammar: &Grammar<'_, F>,
+    cursor: &mut Cursor<'_>,
+    d: u32,
+    stars: Stars,
+    name: Lexeme,
+) -> Result<Boxed<Declarator>, Refusal>
+    requires nests { Nests grammar.now.budget (F.pre grammar.now.read) (F.post grammar.now.read) }
+    requires small { d ≤ 1001 }
+    ensures { Gives view_declarator (perform (declared_by grammar.now.types.now d false stars name k.OpenBracket) cursor.old) result cursor.new }
+{
+    let sizes = sizes(grammar, cursor, d)?;
+    let found = Declarator::Array(stars, name, sizes);
+    Ok(Boxed::new(grammar.alloc, found)?)
+}
+
+/// A function, behind its name.
+#[tactic(auto, using(c_tree::proofs::ViewLemmas::view_Declarator_Function))]
+fn function<
+    F: Fn(
+        Global,
+        &NameEnvironment<'_>,
+        &mut Cursor<'_>,
+        usize,
+        u32,
+        Nested,
+    ) -> Result<Found, Refusal>,
+>(
+    grammar: &Grammar<'_, F>,
+    cursor: &mut Cursor<'_>,
+    d: u32,
+    stars: Stars,
+    name: Lexeme,
+) -> Result<Boxed<Declarator>, Refusal>
+    requires nests { Nests grammar.now.budget (F.pre grammar.now.read) (F.post grammar.now.read) }
+    requires small { d ≤ 1001 }
+    ensures { Gives view_declarator (perform (declared_by grammar.now.types.now d true stars name k.OpenParen) cursor.old) result cursor.new }
+{
+    cursor.take();
+    let params = grammar.parameters(cursor, d)?;
+    let found = Declarator::Function(stars, name, params);
+    Ok(Boxed::new(grammar.alloc, found)?)
+}
+
 /// Behind the stars and the name of a declarator.
-#[tactic(auto, using(c_tree::proofs::ViewLemmas::view_Declarator_Plain, c_tree::proofs::ViewLemmas::view_Declarator_Array, c_tree::proofs::ViewLemmas::view_Declarator_Function))]
+#[tactic(auto, using(c_tree::proofs::ViewLemmas::view_Declarator_Plain))]
 pub fn declared<
     F: Fn(
         Global,
@@ -120,23 +176,17 @@ pub fn declared<
     requires small { d ≤ 1001 }
     ensures { Gives view_declarator (perform (look [] (declared_by grammar.now.types.now d may_be_function stars name)) cursor.old) result cursor.new }
 {
-    let found = match cursor.kind() {
-        Kind::OpenBracket => {
-            let sizes = sizes(grammar, cursor, d)?;
-            Declarator::Array(stars, name, sizes)
-        }
+    match cursor.kind() {
+        Kind::OpenBracket => array(grammar, cursor, d, stars, name),
         Kind::OpenParen => {
             if may_be_function {
-                cursor.take();
-                let params = grammar.parameters(cursor, d)?;
-                Declarator::Function(stars, name, params)
+                function(grammar, cursor, d, stars, name)
             } else {
-                Declarator::Plain(stars, name)
+                Ok(Boxed::new(grammar.alloc, Declarator::Plain(stars, name))?)
             }
         }
-        _ => Declarator::Plain(stars, name),
-    };
-    Ok(Boxed::new(grammar.alloc, found)?)
+        _ => Ok(Boxed::new(grammar.alloc, Declarator::Plain(stars, name))?),
+    }
 }
 
 /// Behind the name of a pointer to a function: the size, where it is an array of them, and the parameters.
@@ -283,8 +333,31 @@ pub fn declarator<
     }
 }
 
+/// Behind the bracket of a pointer to a function without a name: its qualifiers and its parameters.
+fn behind_bare<
+    F: Fn(
+        Global,
+        &NameEnvironment<'_>,
+        &mut Cursor<'_>,
+        usize,
+        u32,
+        Nested,
+    ) -> Result<Found, Refusal>,
+>(grammar: &Grammar<'_, F>, cursor: &mut Cursor<'_>, d: u32) -> Result<(Quals, Params), Refusal>
+    requires nests { Nests grammar.now.budget (F.pre grammar.now.read) (F.post grammar.now.read) }
+    requires small { d ≤ 1001 }
+    ensures { Gives (λ p. (p.0, view_parameters p.1)) (perform (behind_bare grammar.now.types.now d) cursor.old) result cursor.new }
+{
+    expect(cursor, Kind::Star)?;
+    let quals = quals(grammar.alloc, cursor)?;
+    expect(cursor, Kind::CloseParen)?;
+    expect(cursor, Kind::OpenParen)?;
+    let params = grammar.parameters(cursor, d)?;
+    Ok((quals, params))
+}
+
 /// Behind the bracket of a pointer to a function without a name.
-#[tactic(auto, using(c_tree::proofs::ViewLemmas::view_Bare_Pointer))]
+#[tactic(auto, using(crate::proofs::PointerParts::bare_joined, c_tree::proofs::ViewLemmas::view_Bare_Pointer))]
 fn bare_pointer<
     F: Fn(
         Global,
@@ -299,11 +372,7 @@ fn bare_pointer<
     requires small { d ≤ 1001 }
     ensures { Gives view_bare (perform (bare_pointer_from grammar.now.types.now d stars) cursor.old) result cursor.new }
 {
-    expect(cursor, Kind::Star)?;
-    let quals = quals(grammar.alloc, cursor)?;
-    expect(cursor, Kind::CloseParen)?;
-    expect(cursor, Kind::OpenParen)?;
-    let params = grammar.parameters(cursor, d)?;
+    let (quals, params) = behind_bare(grammar, cursor, d)?;
     Ok(Bare::Pointer(stars, quals, params))
 }
 

@@ -2,7 +2,7 @@
 
 ghost use Rattle.std.specs.Prelude.{◌≡◌, ◌≤◌, false, map};
 ghost use Rattle.c_tree.specs.Tree.{no_parameters};
-ghost use Rattle.c_tree.specs.View.{view_parameter, view_parameters, view_form, view_specifier, specifiers_of, parameters_of};
+ghost use Rattle.c_tree.specs.View.{view_declarator, view_parameter, view_parameters, view_form, view_specifier, specifiers_of, parameters_of};
 ghost use Rattle.c_grammar.specs.declared.kind.Kind.TheVariants as k;
 ghost use Rattle.c_grammar.specs.Body.{look};
 ghost use Rattle.c_grammar.specs.Reading.{read};
@@ -13,15 +13,14 @@ ghost use Rattle.expression_parser.specs.Nests.{Nests};
 ghost use Rattle.c_grammar.specs.Performing.{perform};
 ghost use Rattle.type_parser.specs.ParameterList as spec;
 
-use crate::declarator::{pointed, sizes};
+use crate::declarator::{declared, pointed};
 use crate::pointer::{quals, stars};
 use crate::specifier::specifiers;
-use base_core::Lexeme;
 use c_grammar::steps::{expect, kind, new_kind, refused, rise, spend, word};
 use c_grammar::{Cursor, Kind, NameEnvironment, Refusal, same_kind};
 use c_tree::{Bare, Declarator, ParamForm, Parameter, Params, Quals, SpecWord, Specs, Stars};
 use expression_parser::grammar::{Found, Grammar, Nested};
-use sqlite_items::Items;
+use sqlite_items::{Boxed, Items};
 use std::alloc::Global;
 
 /// Whether it is the word void.
@@ -250,8 +249,19 @@ fn parameter<
     formed(grammar, cursor, d, specs, stars)
 }
 
+/// The parameter of a declarator that was read, or the refusal.
+#[tactic(auto, using(c_tree::proofs::ViewLemmas::view_Parameter, c_tree::proofs::ViewLemmas::view_ParamForm_Named))]
+fn declaring(specs: Specs, found: Result<Boxed<Declarator>, Refusal>) -> Result<Parameter, Refusal>
+    ensures { spec.Declaring specs found result }
+{
+    Ok(Parameter {
+        specs,
+        form: ParamForm::Named(found?.into_inner()),
+    })
+}
+
 /// A parameter behind its stars.
-#[tactic(auto, using(c_tree::proofs::ViewLemmas::view_Parameter, c_tree::proofs::ViewLemmas::view_ParamForm_Bare, c_tree::proofs::ViewLemmas::view_Bare_Plain))]
+#[tactic(auto, using(crate::proofs::PointerParts::name_gives, c_tree::proofs::ViewLemmas::view_Parameter, c_tree::proofs::ViewLemmas::view_ParamForm_Bare, c_tree::proofs::ViewLemmas::view_Bare_Plain))]
 fn formed<
     F: Fn(
         Global,
@@ -273,7 +283,7 @@ fn formed<
     ensures { Gives view_parameter (perform (look (rules.barred grammar.now.types.now) (rules.parameter_by grammar.now.types.now d (specifiers_of (map view_specifier specs)) stars)) cursor.old) result cursor.new }
 {
     match new_kind(grammar.types, cursor) {
-        Kind::Name => named(grammar, cursor, d, specs, stars),
+        Kind::Name => declaring(specs, named(grammar, cursor, d, stars)),
         Kind::OpenParen => {
             cursor.take();
             inner(grammar, cursor, d, specs, stars)
@@ -285,8 +295,7 @@ fn formed<
     }
 }
 
-/// A parameter at its name.
-#[tactic(auto, using(c_tree::proofs::ViewLemmas::view_Parameter, c_tree::proofs::ViewLemmas::view_ParamForm_Named, c_tree::proofs::ViewLemmas::view_Declarator_Array, c_tree::proofs::ViewLemmas::view_Declarator_Plain))]
+/// The declarator of a parameter, at its name, which lies one node deeper than the parameter.
 fn named<
     F: Fn(
         Global,
@@ -300,27 +309,20 @@ fn named<
     grammar: &Grammar<'_, F>,
     cursor: &mut Cursor<'_>,
     d: u32,
-    specs: Specs,
     stars: Stars,
-) -> Result<Parameter, Refusal>
+) -> Result<Boxed<Declarator>, Refusal>
     requires nests { Nests grammar.now.budget (F.pre grammar.now.read) (F.post grammar.now.read) }
     requires small { d ≤ 1001 }
-    ensures { Gives view_parameter (perform (rules.parameter_by grammar.now.types.now d (specifiers_of (map view_specifier specs)) stars k.Name) cursor.old) result cursor.new }
+    ensures { Gives view_declarator (perform (spec.named grammar.now.types.now d stars) cursor.old) result cursor.new }
 {
     rise(cursor)?;
     spend(cursor, 1, d + 1)?;
     let name = word(grammar.alloc, cursor)?;
-    let declarator = match cursor.kind() {
-        Kind::OpenBracket => Declarator::Array(stars, name, sizes(grammar, cursor, d + 1)?),
-        _ => Declarator::Plain(stars, name),
-    };
-    Ok(Parameter {
-        specs,
-        form: ParamForm::Named(declarator),
-    })
+    declared(grammar, cursor, d + 1, false, stars, name)
 }
 
 /// A parameter behind the bracket of a pointer to a function.
+#[tactic(auto, using(crate::proofs::PointerParts::pointer_gives))]
 fn inner<
     F: Fn(
         Global,
@@ -344,41 +346,10 @@ fn inner<
     expect(cursor, Kind::Star)?;
     let quals = quals(grammar.alloc, cursor)?;
     match new_kind(grammar.types, cursor) {
-        Kind::Name => named_pointer(grammar, cursor, d, specs, stars, quals),
+        Kind::Name => declaring(specs, named_pointer(grammar, cursor, d, stars, quals)),
         Kind::CloseParen => bare_pointer(grammar, cursor, d, specs, stars, quals),
         _ => Err(refused(cursor)),
     }
-}
-
-/// A pointer to a function, behind its name.
-#[tactic(auto, using(crate::proofs::PointerParts::parameter_joined, c_tree::proofs::ViewLemmas::view_Parameter, c_tree::proofs::ViewLemmas::view_ParamForm_Named))]
-fn pointer_parameter<
-    F: Fn(
-        Global,
-        &NameEnvironment<'_>,
-        &mut Cursor<'_>,
-        usize,
-        u32,
-        Nested,
-    ) -> Result<Found, Refusal>,
->(
-    grammar: &Grammar<'_, F>,
-    cursor: &mut Cursor<'_>,
-    d: u32,
-    specs: Specs,
-    stars: Stars,
-    quals: Quals,
-    name: Lexeme,
-) -> Result<Parameter, Refusal>
-    requires nests { Nests grammar.now.budget (F.pre grammar.now.read) (F.post grammar.now.read) }
-    requires small { d ≤ 1000 }
-    ensures { Gives view_parameter (perform (spec.pointer_parameter grammar.now.types.now d (specifiers_of (map view_specifier specs)) stars quals name) cursor.old) result cursor.new }
-{
-    let declarator = pointed(grammar, cursor, d + 1, stars, quals, name)?;
-    Ok(Parameter {
-        specs,
-        form: ParamForm::Named(declarator.into_inner()),
-    })
 }
 
 /// A pointer to a function, at its name.
@@ -395,22 +366,41 @@ fn named_pointer<
     grammar: &Grammar<'_, F>,
     cursor: &mut Cursor<'_>,
     d: u32,
-    specs: Specs,
     stars: Stars,
     quals: Quals,
-) -> Result<Parameter, Refusal>
+) -> Result<Boxed<Declarator>, Refusal>
     requires nests { Nests grammar.now.budget (F.pre grammar.now.read) (F.post grammar.now.read) }
     requires small { d ≤ 1001 }
-    ensures { Gives view_parameter (perform (rules.parameter_pointer_by grammar.now.types.now d (specifiers_of (map view_specifier specs)) stars quals k.Name) cursor.old) result cursor.new }
+    ensures { Gives view_declarator (perform (spec.named_pointer grammar.now.types.now d stars quals) cursor.old) result cursor.new }
 {
     rise(cursor)?;
     spend(cursor, 1, d + 1)?;
     let name = word(grammar.alloc, cursor)?;
-    pointer_parameter(grammar, cursor, d, specs, stars, quals, name)
+    pointed(grammar, cursor, d + 1, stars, quals, name)
+}
+
+/// The parameters of a pointer to a function without a name, at the bracket behind its star.
+fn behind_pointer<
+    F: Fn(
+        Global,
+        &NameEnvironment<'_>,
+        &mut Cursor<'_>,
+        usize,
+        u32,
+        Nested,
+    ) -> Result<Found, Refusal>,
+>(grammar: &Grammar<'_, F>, cursor: &mut Cursor<'_>, d: u32) -> Result<Params, Refusal>
+    requires nests { Nests grammar.now.budget (F.pre grammar.now.read) (F.post grammar.now.read) }
+    requires small { d ≤ 1001 }
+    ensures { Gives view_parameters (perform (spec.behind_pointer grammar.now.types.now d) cursor.old) result cursor.new }
+{
+    cursor.take();
+    expect(cursor, Kind::OpenParen)?;
+    grammar.parameters(cursor, d)
 }
 
 /// A pointer to a function without a name, at the bracket behind its star.
-#[tactic(auto, using(c_tree::proofs::ViewLemmas::view_Parameter, c_tree::proofs::ViewLemmas::view_ParamForm_Bare, c_tree::proofs::ViewLemmas::view_Bare_Pointer))]
+#[tactic(auto, using(crate::proofs::PointerParts::bare_parameter_joined, c_tree::proofs::ViewLemmas::view_Parameter, c_tree::proofs::ViewLemmas::view_ParamForm_Bare, c_tree::proofs::ViewLemmas::view_Bare_Pointer))]
 fn bare_pointer<
     F: Fn(
         Global,
@@ -432,9 +422,7 @@ fn bare_pointer<
     requires small { d ≤ 1001 }
     ensures { Gives view_parameter (perform (rules.parameter_pointer_by grammar.now.types.now d (specifiers_of (map view_specifier specs)) stars quals k.CloseParen) cursor.old) result cursor.new }
 {
-    cursor.take();
-    expect(cursor, Kind::OpenParen)?;
-    let params = grammar.parameters(cursor, d)?;
+    let params = behind_pointer(grammar, cursor, d)?;
     Ok(Parameter {
         specs,
         form: ParamForm::Bare(Bare::Pointer(stars, quals, params)),

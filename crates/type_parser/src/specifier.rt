@@ -55,8 +55,32 @@ pub fn specifiers<
     requires small { d ≤ 1001 }
     ensures { Gives (λ ws. specifiers_of (map view_specifier ws)) (read (all_specifiers grammar.now.types.now d named []) cursor.old) result cursor.new }
 {
-    let mut found = Items::new(grammar.alloc);
     let mut words = Words::new(grammar.alloc);
+    more_specifiers(grammar, cursor, d, named, &mut words)
+}
+
+/// The specifiers that go on with these words of one type.
+fn more_specifiers<
+    F: Fn(
+        Global,
+        &NameEnvironment<'_>,
+        &mut Cursor<'_>,
+        usize,
+        u32,
+        Nested,
+    ) -> Result<Found, Refusal>,
+>(
+    grammar: &Grammar<'_, F>,
+    cursor: &mut Cursor<'_>,
+    d: u32,
+    named: bool,
+    words: &mut Words,
+) -> Result<Specs, Refusal>
+    requires nests { Nests grammar.now.budget (F.pre grammar.now.read) (F.post grammar.now.read) }
+    requires small { d ≤ 1001 }
+    ensures { Gives (λ ws. specifiers_of (map view_specifier ws)) (read (all_specifiers grammar.now.types.now d named words.old) cursor.old) result cursor.new }
+{
+    let mut found = Items::new(grammar.alloc);
     let mut owing = named;
     while let Some(start) = words.follow(kind(grammar.types, cursor))? {
         found.push(specifier(grammar, cursor, d, owing, start)?)?;
@@ -112,13 +136,11 @@ fn specifier<
         }
         Start::Struct => {
             cursor.take();
-            let found = structure(grammar, cursor, d)?;
-            Ok(found)
+            structure(grammar, cursor, d)
         }
         Start::Enum => {
             cursor.take();
-            let found = enumeration(grammar, cursor, d)?;
-            Ok(found)
+            enumeration(grammar, cursor, d)
         }
     }
 }

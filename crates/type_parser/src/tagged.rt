@@ -3,6 +3,7 @@
 ghost use Rattle.std.specs.Prelude.{◌≡◌, ◌≤◌, [], map};
 ghost use Rattle.c_tree.specs.Tree.{declarators};
 ghost use Rattle.c_tree.specs.View.{view_specifier, view_declarator, view_enumerator, view_member, specifiers_of, members_of, declarators_of, enumerators_of};
+ghost use Rattle.c_grammar.specs.declared.kind.Kind.TheVariants as k;
 ghost use Rattle.c_grammar.specs.Body.{look};
 ghost use Rattle.c_grammar.specs.Reading.{read};
 ghost use Rattle.c_grammar.specs.Rules.{barred, a_struct, all_members, all_declarators, more_declarators, an_enum, all_enumerators, struct_body_by, enum_body_by};
@@ -376,6 +377,35 @@ fn behind_enumerator(
     }
 }
 
+/// An enumerator with a value, behind its name.
+#[tactic(auto, using(c_tree::proofs::ViewLemmas::view_Enumerator))]
+fn with_value<
+    F: Fn(
+        Global,
+        &NameEnvironment<'_>,
+        &mut Cursor<'_>,
+        usize,
+        u32,
+        Nested,
+    ) -> Result<Found, Refusal>,
+>(
+    grammar: &Grammar<'_, F>,
+    cursor: &mut Cursor<'_>,
+    d: u32,
+    name: Lexeme,
+) -> Result<(Boxed<Enumerator>, Option<bool>), Refusal>
+    requires nests { Nests grammar.now.budget (F.pre grammar.now.read) (F.post grammar.now.read) }
+    requires small { d ≤ 1001 }
+    ensures { Gives (λ p. (view_enumerator p.0, p.1)) (perform (valued_by grammar.now.types.now d name k.Assign) cursor.old) result cursor.new }
+{
+    spend(cursor, 1, d + 2)?;
+    cursor.take();
+    let value = grammar.expression(cursor, d + 1, 3, 0)?;
+    let value = Some(value.into_inner());
+    let found = Boxed::new(grammar.alloc, Enumerator { name, value })?;
+    behind_enumerator(grammar.types, cursor, d, found)
+}
+
 /// An enumerator, behind its name: its value if it has one, and what stands behind it.
 #[tactic(auto, using(c_tree::proofs::ViewLemmas::view_Enumerator))]
 fn value<
@@ -398,14 +428,7 @@ fn value<
     ensures { Gives (λ p. (view_enumerator p.0, p.1)) (perform (look [] (valued_by grammar.now.types.now d name)) cursor.old) result cursor.new }
 {
     match cursor.kind() {
-        Kind::Assign => {
-            spend(cursor, 1, d + 2)?;
-            cursor.take();
-            let value = grammar.expression(cursor, d + 1, 3, 0)?;
-            let value = Some(value.into_inner());
-            let found = Boxed::new(grammar.alloc, Enumerator { name, value })?;
-            behind_enumerator(grammar.types, cursor, d, found)
-        }
+        Kind::Assign => with_value(grammar, cursor, d, name),
         _ => {
             let value = None;
             let found = Boxed::new(grammar.alloc, Enumerator { name, value })?;

@@ -12,7 +12,7 @@
 --   }
 --   int main(void) { int (*q)(int, int *) = f; return (*q)(1, &g.m[0]); }
 
-use Rattle.std.proofs.Common.{◌≡◌, ℕ, ℤ, pos, List, [], ◌∷◌, Some, None, Bool, true, false, refl, codes}
+use Rattle.std.proofs.Common.{◌≡◌, ℤ, pos, List, [], ◌∷◌, Some, None, Bool, true, false, refl, codes}
 use Rattle.c_tree.specs.declared.tree.AssignOp.TheVariants as assign_op
 use Rattle.c_tree.specs.declared.tree.BinaryOp.TheVariants as op
 use Rattle.c_tree.specs.declared.tree.UnaryOp.TheVariants as unary_op

@@ -1,5 +1,6 @@
 pub mod Passed
 pub mod Tables
+pub mod Known
 pub mod PassedStatements
 pub mod Stays
 pub mod StaysStatements

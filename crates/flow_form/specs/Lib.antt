@@ -5,6 +5,7 @@ pub mod Passed
 pub mod Statements
 pub mod Table
 pub mod Pending
+pub mod Known
 pub mod Jumps
 pub mod PassedStatements
 pub mod Action

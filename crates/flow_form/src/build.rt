@@ -13,8 +13,8 @@ use c_tree::Program;
 use std::alloc::{AllocError, Global};
 
 /// The positions of a program, and the ways on from each (C11 5.1.2.3, 6.5, 6.8). The edges of a position stand in order of the
-/// positions to which they lead, which are there, and no value of a function is pending at its Enter. Err where there is not
-/// enough memory.
+/// positions to which they lead, which are there, and no value of a function is pending at its Enter. The time grows with the
+/// number of nodes. Err where there is not enough memory.
 pub fn flow<'a>(
     alloc: Global,
     meaning: Meaning<'a>,

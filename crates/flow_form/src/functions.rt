@@ -2,12 +2,14 @@ ghost use Rattle.std.specs.Prelude.{◌≡◌, map, OnOk};
 ghost use Rattle.c_tree.specs.StatementView.{view_item, view_statement, view_function};
 ghost use Rattle.c_tree.specs.Behind.{behind_statement, behind_function, behind_items};
 ghost use Rattle.flow_form.specs.PassedStatements.{past_body, past_end, past_function, past_items};
+ghost use Rattle.flow_form.specs.Known.{label_of};
+ghost use Rattle.flow_form.specs.Statements.{labels};
 ghost use Rattle.flow_form.specs.Typing.{typing};
 
 use crate::jumps::Jumps;
-use crate::labels::collect_labels;
 use crate::meaning::Meaning;
 use crate::statements::walk_statement;
+use crate::targets::Targets;
 use crate::walk::{Walk, begin_of, enter_of, finish_of, giving_of, leave_of, plain_of};
 use c_tree::{Function, Item, Stmt, count_declaration, count_parameters, count_specifiers};
 use std::alloc::AllocError;
@@ -25,25 +27,38 @@ fn walk_end(is_main: bool, n: u32, walk: &mut Walk) -> Result<(), AllocError>
     }
 }
 
-/// Passes the body of the function `n`.
-fn walk_body(t: &Meaning<'_>, n: u32, s: &Stmt, walk: &mut Walk) -> Result<(), AllocError>
+/// Passes the body of the function `n`, in which jumps lead to these targets.
+fn walk_to_targets(
+    t: &Meaning<'_>,
+    n: u32,
+    s: &Stmt,
+    targets: &Targets<'_>,
+    walk: &mut Walk,
+) -> Result<(), AllocError>
+    requires { map label_of targets.now.labels.items ≡ labels walk.old.at (view_statement s.now) }
     ensures number { OnOk result (walk.new.at ≡ behind_statement walk.old.at (view_statement s.now)) }
     ensures rows { OnOk result (walk.new.rows.items ≡ past_body (typing t.now) n walk.old.at (view_statement s.now) walk.old.rows.items) }
 {
     let b = walk.at;
-    let mut at = b;
-    let mut labels = Vec::new(walk.alloc);
-    collect_labels(s, &mut at, &mut labels)?;
     let w = Jumps {
         stop: leave_of(n),
         again: leave_of(n),
         function: n,
-        labels: labels.as_slice(),
+        targets,
     };
     walk.to(begin_of(n), enter_of(b))?;
     walk_statement(t, &w, s, walk)?;
     walk.to(plain_of(leave_of(b)), leave_of(n))?;
     walk_end(n == t.names.main, n, walk)
+}
+
+/// Passes the body of the function `n`.
+fn walk_body(t: &Meaning<'_>, n: u32, s: &Stmt, walk: &mut Walk) -> Result<(), AllocError>
+    ensures number { OnOk result (walk.new.at ≡ behind_statement walk.old.at (view_statement s.now)) }
+    ensures rows { OnOk result (walk.new.rows.items ≡ past_body (typing t.now) n walk.old.at (view_statement s.now) walk.old.rows.items) }
+{
+    let targets = Targets::of_body(walk.alloc, s, walk.at)?;
+    walk_to_targets(t, n, s, &targets, walk)
 }
 
 fn walk_function(t: &Meaning<'_>, f: &Function, walk: &mut Walk) -> Result<(), AllocError>

@@ -1,20 +1,14 @@
-ghost use Rattle.std.specs.Prelude.{◌≡◌, map, bytes_eq};
+ghost use Rattle.std.specs.Prelude.{◌≡◌};
 ghost use Rattle.c_tree.specs.StatementView.{view_statement};
-ghost use Rattle.flow_form.specs.Jumps.{around, label_of};
+ghost use Rattle.flow_form.specs.Jumps.{around};
 ghost use Rattle.flow_form.specs.Positions.{otherwise};
-ghost use Rattle.flow_form.specs.Statements.{jump, label, leaving};
+ghost use Rattle.flow_form.specs.Statements.{jump, leaving};
 
 use crate::edge::Source;
-use crate::walk::{enter_of, giving_of, leave_of, plain_of};
+use crate::targets::Targets;
+use crate::walk::{giving_of, leave_of, plain_of};
 use base_core::Pos;
 use c_tree::Stmt;
-
-/// A label of a function, and the node that has it.
-#[derive(Clone, Copy)]
-pub(crate) struct Label<'a> {
-    pub(crate) name: &'a [u8],
-    pub(crate) node: u32,
-}
 
 /// Where the jumps of a statement lead: a break, a continue, a return from this function, and a goto by its label.
 #[derive(Clone, Copy)]
@@ -22,25 +16,7 @@ pub(crate) struct Jumps<'a> {
     pub(crate) stop: Pos,
     pub(crate) again: Pos,
     pub(crate) function: u32,
-    pub(crate) labels: &'a [Label<'a>],
-}
-
-fn is_name(a: &[u8], b: &[u8]) -> bool
-    ensures { result ≡ bytes_eq a.now b.now }
-{
-    a == b
-}
-
-/// The Enter of the label of this name.
-fn find_label(labels: &[Label<'_>], name: &[u8]) -> Option<Pos>
-    ensures { result ≡ label name.now (map label_of labels.now) }
-{
-    for l in labels {
-        if is_name(name, l.name) {
-            return Some(enter_of(l.node));
-        }
-    }
-    None
+    pub(crate) targets: &'a Targets<'a>,
 }
 
 /// Where a statement jumps to from its Leave; None where it goes on.
@@ -51,7 +27,7 @@ pub(crate) fn jump_of(w: &Jumps<'_>, s: &Stmt) -> Option<Pos>
         Stmt::Break => Some(w.stop),
         Stmt::Continue => Some(w.again),
         Stmt::Return(_) => Some(leave_of(w.function)),
-        Stmt::Goto(m) => find_label(w.labels, m.as_bytes()),
+        Stmt::Goto(m) => w.targets.label(m.as_bytes()),
         Stmt::Block(_)
         | Stmt::Decl(_)
         | Stmt::Expr(_)

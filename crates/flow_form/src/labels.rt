@@ -1,23 +1,32 @@
 ghost use Rattle.std.specs.Prelude.{◌≡◌, ◌++◌, map, OnOk};
 ghost use Rattle.c_tree.specs.StatementView.{view_statement, statements_of};
 ghost use Rattle.c_tree.specs.Behind.{behind_statement, behind_statements};
-ghost use Rattle.flow_form.specs.Jumps.{label_of};
+ghost use Rattle.flow_form.specs.Known.{label_of};
 ghost use Rattle.flow_form.specs.Statements.{labels, all_labels};
 
-use crate::jumps::Label;
+use crate::targets::{Found, Label};
 use crate::walk::pass;
 use c_tree::{Stmt, count_declaration, count_expression, count_optional, count_start};
 use std::alloc::AllocError;
+use std::collections::HashMap;
 
-/// Appends the labels of a statement, and passes its nodes.
+/// Notes that the condition of the do `n` has the number `a`.
+fn note_condition(n: u32, a: u32, conditions: &mut HashMap<u32, u32>) -> Result<(), AllocError> {
+    match conditions.insert(n, a) {
+        Ok(_) => Ok(()),
+        Err(_) => Err(AllocError),
+    }
+}
+
+/// Appends the labels of a statement, notes the conditions of each do in it, and passes its nodes.
 #[cycle(collect)]
 pub(crate) fn collect_labels<'a>(
     s: &'a Stmt,
     at: &mut u32,
-    out: &mut Vec<Label<'a>>,
+    out: &mut Found<'a>,
 ) -> Result<(), AllocError>
     ensures number { OnOk result (at.new ≡ behind_statement at.old (view_statement s.now)) }
-    ensures found { OnOk result (map label_of out.new.items ≡ map label_of out.old.items ++ labels at.old (view_statement s.now)) }
+    ensures found { OnOk result (map label_of out.new.labels.items ≡ map label_of out.old.labels.items ++ labels at.old (view_statement s.now)) }
 {
     let n = *at;
     match s {
@@ -47,7 +56,7 @@ pub(crate) fn collect_labels<'a>(
         }
         Stmt::Label(m) => {
             pass(at)?;
-            out.push(Label {
+            out.labels.push(Label {
                 name: m.as_bytes(),
                 node: n,
             })?;
@@ -57,6 +66,7 @@ pub(crate) fn collect_labels<'a>(
         Stmt::DoWhile(body, e) => {
             pass(at)?;
             collect_labels(body.get(), at, out)?;
+            note_condition(n, *at, &mut out.conditions)?;
             count_expression(e, at)
         }
         Stmt::For(start, test, step, body) => {
@@ -70,13 +80,9 @@ pub(crate) fn collect_labels<'a>(
 }
 
 #[cycle(collect)]
-fn collect_all<'a>(
-    all: &'a [Stmt],
-    at: &mut u32,
-    out: &mut Vec<Label<'a>>,
-) -> Result<(), AllocError>
+fn collect_all<'a>(all: &'a [Stmt], at: &mut u32, out: &mut Found<'a>) -> Result<(), AllocError>
     ensures number { OnOk result (at.new ≡ behind_statements at.old (statements_of (map view_statement all.now))) }
-    ensures found { OnOk result (map label_of out.new.items ≡ map label_of out.old.items ++ all_labels at.old (statements_of (map view_statement all.now))) }
+    ensures found { OnOk result (map label_of out.new.labels.items ≡ map label_of out.old.labels.items ++ all_labels at.old (statements_of (map view_statement all.now))) }
 {
     for s in all {
         collect_labels(s, at, out)?;

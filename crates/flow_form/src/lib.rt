@@ -22,6 +22,7 @@ mod positions;
 mod statements;
 mod switches;
 mod table;
+mod targets;
 mod values;
 mod walk;
 

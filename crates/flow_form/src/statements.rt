@@ -1,4 +1,4 @@
-ghost use Rattle.std.specs.Prelude.{◌≡◌, ◌+◌, None, map, option_map, OnOk};
+ghost use Rattle.std.specs.Prelude.{◌≡◌, ◌+◌, ◌++◌, None, map, option_map, OnOk};
 ghost use Rattle.c_tree.specs.Tree.{if_statement, while_statement, do_statement, for_statement, switch_statement};
 ghost use Rattle.c_tree.specs.View.{view_expression};
 ghost use Rattle.c_tree.specs.StatementView.{view_start, view_statement, statements_of};
@@ -6,24 +6,22 @@ ghost use Rattle.c_tree.specs.Behind.{behind_optional, behind_statement, behind_
 ghost use Rattle.flow_form.specs.Jumps.{around};
 ghost use Rattle.flow_form.specs.Passed.{and};
 ghost use Rattle.flow_form.specs.PassedStatements.{past_whole, past_result, past_statement, past_in_order};
-ghost use Rattle.flow_form.specs.Statements.{from};
+ghost use Rattle.flow_form.specs.Statements.{from, cases, switch_edges};
 ghost use Rattle.flow_form.specs.Typing.{typing};
 
 use crate::declarations::walk_declaration;
-use crate::edge::Source;
+use crate::edge::{Edge, Source};
 use crate::expressions::{walk_expression, walk_part};
 use crate::jumps::{Jumps, jump_of, leaving_of, or_on};
 use crate::loops::{to_optional_of, walk_condition, walk_start, walk_step};
 use crate::meaning::Meaning;
-use crate::switches::edges_of_switch;
+use crate::switches::{Switch, has_default_label, push_case, push_end};
 use crate::values::is_read;
 use crate::walk::{
     Walk, begin_of, enter_of, leave_of, nonzero, plain_of, unused_of, used_of, zero,
 };
 use base_core::Pos;
-use c_tree::{
-    Expr, ForStart, Stmt, count_expression, count_optional, count_start, count_statement,
-};
+use c_tree::{Expr, ForStart, Stmt, count_expression, count_optional, count_start};
 use std::alloc::AllocError;
 
 /// Passes a statement, all but the ways on from its own Leave.
@@ -119,7 +117,8 @@ fn walk_while(
     leave_statement(&inside, b, body, enter_of(a), walk)
 }
 
-/// Passes a do (C11 6.8.5.2); a continue leads to its condition.
+/// Passes a do (C11 6.8.5.2); a continue leads to its condition, whose number was noted before the walk. Err also where the number that the
+/// walk finds there is another one.
 #[cycle(walk_statement)]
 fn walk_do(
     t: &Meaning<'_>,
@@ -133,11 +132,15 @@ fn walk_do(
 {
     let n = walk.begin()?;
     let b = walk.at;
-    let mut a = b;
-    count_statement(body, &mut a)?;
+    let Some(a) = w.targets.condition(n) else {
+        return Err(AllocError);
+    };
     walk.to(begin_of(n), enter_of(b))?;
     let inside = inside_loop(w, leave_of(n), enter_of(a));
     walk_statement(t, &inside, body, walk)?;
+    if walk.at != a {
+        return Err(AllocError);
+    }
     leave_statement(&inside, b, body, enter_of(a), walk)?;
     walk_expression(t, false, e, walk)?;
     let r = used_of(n, a, walk.at, is_read(t, false, a, e));
@@ -192,21 +195,101 @@ fn walk_switch(
     let b = walk.at;
     let r = used_of(n, a, b, is_read(t, false, a, e));
     let inside = inside_loop(w, leave_of(n), w.again);
-    walk_statement(t, &inside, body, walk)?;
+    let mut next = Vec::new(walk.alloc);
+    let of = Switch {
+        node: n,
+        expression: a,
+    };
+    walk_cases(t, &inside, body, of, walk, &mut next)?;
     walk.to(plain_of(leave_of(b)), leave_of(n))?;
-    let next = edges_of_switch(walk.alloc, t, n, a, b, body)?;
     walk.ways(r, next)
+}
+
+/// Passes the body of a switch, and appends where control goes from the switch's expression.
+#[cycle(walk_statement)]
+fn walk_cases(
+    t: &Meaning<'_>,
+    w: &Jumps<'_>,
+    body: &Stmt,
+    of: Switch,
+    walk: &mut Walk,
+    out: &mut Vec<Edge>,
+) -> Result<(), AllocError>
+    ensures number { OnOk result (walk.new.at ≡ behind_statement walk.old.at (view_statement body.now)) }
+    ensures rows { OnOk result (walk.new.rows.items ≡ past_statement (typing t.now) (around w.now) walk.old.at (view_statement body.now) walk.old.rows.items) }
+    ensures edges { OnOk result (out.new.items ≡ out.old.items ++ switch_edges (typing t.now) of.node of.expression walk.old.at (view_statement body.now)) }
+{
+    match body {
+        Stmt::Block(all) => {
+            let b = walk.begin()?;
+            push_end(has_default_label(all.as_slice()), of, out)?;
+            walk_labelled(
+                t,
+                w,
+                begin_of(b),
+                leave_of(b),
+                all.as_slice(),
+                of,
+                walk,
+                out,
+            )
+        }
+        Stmt::Decl(_)
+        | Stmt::Expr(_)
+        | Stmt::If(_, _, None)
+        | Stmt::If(_, _, Some(_))
+        | Stmt::While(_, _)
+        | Stmt::DoWhile(_, _)
+        | Stmt::For(_, _, _, _)
+        | Stmt::Switch(_, _)
+        | Stmt::Case(_)
+        | Stmt::Default
+        | Stmt::Label(_)
+        | Stmt::Break
+        | Stmt::Continue
+        | Stmt::Return(_)
+        | Stmt::Goto(_) => walk_statement(t, w, body, walk),
+    }
+}
+
+/// From `s` through the statements of a switch's block to `q`; appends the edges from the switch's expression to the labels among them.
+#[cycle(walk_statement)]
+fn walk_labelled(
+    t: &Meaning<'_>,
+    w: &Jumps<'_>,
+    s: Source,
+    q: Pos,
+    all: &[Stmt],
+    of: Switch,
+    walk: &mut Walk,
+    out: &mut Vec<Edge>,
+) -> Result<(), AllocError>
+    ensures number { OnOk result (walk.new.at ≡ behind_statements walk.old.at (statements_of (map view_statement all.now))) }
+    ensures rows { OnOk result (walk.new.rows.items ≡ past_in_order (typing t.now) (around w.now) s None q walk.old.at (statements_of (map view_statement all.now)) walk.old.rows.items) }
+    ensures edges { OnOk result (out.new.items ≡ out.old.items ++ cases (typing t.now) of.node of.expression walk.old.at (statements_of (map view_statement all.now))) }
+{
+    let mut last = s;
+    let mut jump: Option<Pos> = None;
+    for r in all {
+        let n = walk.at;
+        walk.to(last, or_on(jump, enter_of(n)))?;
+        push_case(t, of, n, r, out)?;
+        walk_statement(t, w, r, walk)?;
+        last = leaving_of(w, n, r);
+        jump = jump_of(w, r);
+    }
+    walk.to(last, or_on(jump, q))
 }
 
 /// The jumps in a loop or switch, whose break leads to `stop` and whose continue to `again`.
 fn inside_loop<'a>(w: &Jumps<'a>, stop: Pos, again: Pos) -> Jumps<'a>
-    ensures { result ≡ record { stop = stop; again = again; function = w.now.function; labels = w.now.labels } }
+    ensures { result ≡ record { stop = stop; again = again; function = w.now.function; targets = w.now.targets } }
 {
     Jumps {
         stop,
         again,
         function: w.function,
-        labels: w.labels,
+        targets: w.targets,
     }
 }
 

@@ -1,58 +1,58 @@
-ghost use Rattle.std.specs.Prelude.{◌≡◌, ◌++◌, map, OnOk, IfOk};
+ghost use Rattle.std.specs.Prelude.{◌≡◌, ◌++◌, map, OnOk};
 ghost use Rattle.c_tree.specs.StatementView.{view_statement, statements_of};
-ghost use Rattle.flow_form.specs.Statements.{case_edges, cases, is_default, has_default, switch_edges};
+ghost use Rattle.flow_form.specs.Statements.{case_edges, leave_edges, is_default, has_default};
 ghost use Rattle.flow_form.specs.Typing.{typing};
 
 use crate::edge::{Edge, Guard};
 use crate::meaning::Meaning;
-use crate::walk::{enter_of, leave_of, pass};
+use crate::walk::{enter_of, leave_of};
 use base_core::NodeId;
-use c_tree::{Stmt, count_statement};
-use std::alloc::{AllocError, Global};
+use c_tree::Stmt;
+use std::alloc::AllocError;
 
-/// Appends the edges to the labels directly in the block of the switch `s`, for its expression `a`; `n` is the first statement.
-fn push_cases(
-    t: &Meaning<'_>,
-    s: u32,
-    a: u32,
-    n: u32,
-    all: &[Stmt],
-    out: &mut Vec<Edge>,
-) -> Result<(), AllocError>
-    ensures { OnOk result (out.new.items ≡ out.old.items ++ cases (typing t.now) s a n (statements_of (map view_statement all.now))) }
+/// A switch, and its expression.
+#[derive(Clone, Copy)]
+pub(crate) struct Switch {
+    pub(crate) node: u32,
+    pub(crate) expression: u32,
+}
+
+/// Appends the edge to the end of a switch, unless it has a label `default`.
+pub(crate) fn push_end(has_default: bool, of: Switch, out: &mut Vec<Edge>) -> Result<(), AllocError>
+    ensures { OnOk result (out.new.items ≡ out.old.items ++ leave_edges has_default of.node) }
 {
-    let mut at = n;
-    for statement in all {
-        push_case(t, s, a, at, statement, out)?;
-        count_statement(statement, &mut at)?;
+    if !has_default {
+        out.push(Edge {
+            to: leave_of(of.node),
+            guard: Guard::NoneOf(NodeId(of.node)),
+        })?;
     }
     Ok(())
 }
 
-/// Appends the edge to the statement `n`, if it is a label of the switch `s`.
-fn push_case(
+/// Appends the edge to the statement `n` directly in the block of a switch, if it is a label of it.
+pub(crate) fn push_case(
     t: &Meaning<'_>,
-    s: u32,
-    a: u32,
+    of: Switch,
     n: u32,
     statement: &Stmt,
     out: &mut Vec<Edge>,
 ) -> Result<(), AllocError>
-    ensures { OnOk result (out.new.items ≡ out.old.items ++ case_edges (typing t.now) s a n (view_statement statement.now)) }
+    ensures { OnOk result (out.new.items ≡ out.old.items ++ case_edges (typing t.now) of.node of.expression n (view_statement statement.now)) }
 {
     let to = enter_of(n);
     match statement {
         Stmt::Case(_) => {
             out.push(Edge {
                 to,
-                guard: Guard::Equal(NodeId(a), t.constant(n)),
+                guard: Guard::Equal(NodeId(of.expression), t.constant(n)),
             })?;
             Ok(())
         }
         Stmt::Default => {
             out.push(Edge {
                 to,
-                guard: Guard::NoneOf(NodeId(s)),
+                guard: Guard::NoneOf(NodeId(of.node)),
             })?;
             Ok(())
         }
@@ -97,7 +97,7 @@ fn is_default_label(s: &Stmt) -> bool
 }
 
 /// Whether a label `default` stands directly among these statements.
-fn has_default_label(all: &[Stmt]) -> bool
+pub(crate) fn has_default_label(all: &[Stmt]) -> bool
     ensures { result ≡ has_default (statements_of (map view_statement all.now)) }
 {
     for s in all {
@@ -106,47 +106,4 @@ fn has_default_label(all: &[Stmt]) -> bool
         }
     }
     false
-}
-
-/// Where control goes from the expression `a` of the switch `s`, which has the body `b`.
-pub(crate) fn edges_of_switch(
-    alloc: Global,
-    t: &Meaning<'_>,
-    s: u32,
-    a: u32,
-    b: u32,
-    body: &Stmt,
-) -> Result<Vec<Edge>, AllocError>
-    ensures { IfOk result (λ edges. edges.items ≡ switch_edges (typing t.now) s a b (view_statement body.now)) }
-{
-    let mut out = Vec::new(alloc);
-    match body {
-        Stmt::Block(all) => {
-            let mut first = b;
-            pass(&mut first)?;
-            if !has_default_label(all.as_slice()) {
-                out.push(Edge {
-                    to: leave_of(s),
-                    guard: Guard::NoneOf(NodeId(s)),
-                })?;
-            }
-            push_cases(t, s, a, first, all.as_slice(), &mut out)?;
-        }
-        Stmt::Decl(_)
-        | Stmt::Expr(_)
-        | Stmt::If(_, _, None)
-        | Stmt::If(_, _, Some(_))
-        | Stmt::While(_, _)
-        | Stmt::DoWhile(_, _)
-        | Stmt::For(_, _, _, _)
-        | Stmt::Switch(_, _)
-        | Stmt::Case(_)
-        | Stmt::Default
-        | Stmt::Label(_)
-        | Stmt::Break
-        | Stmt::Continue
-        | Stmt::Return(_)
-        | Stmt::Goto(_) => {}
-    }
-    Ok(out)
 }

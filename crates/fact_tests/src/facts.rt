@@ -37,6 +37,9 @@ fn lists_are_made(rt: HostRuntime) -> Result<(), Fail> {
     assert!(rt; facts.copy(cell, &mut state).is_ok());
     assert!(rt; facts.cell_list(rt.alloc()).is_ok());
     assert!(rt; facts.holder_list(rt.alloc()).is_ok());
+    assert!(rt; facts.installed_list(rt.alloc()).is_ok());
+    assert!(rt; facts.thread_list(rt.alloc()).is_ok());
+    assert!(rt; facts.fork_list(rt.alloc()).is_ok());
     assert!(rt; facts.stirred_list(rt.alloc()).is_ok());
     Ok(())
 }
@@ -80,6 +83,32 @@ fn a_handler_is_added_once(rt: HostRuntime) -> Result<(), Fail> {
     });
     let first = facts.add(&part, &installed)?;
     let again = facts.add(&part, &installed)?;
+    let there = facts.installed_at(signal, FnId(1)).is_some();
+    let other = facts.installed_at(signal, FnId(2)).is_some();
     assert!(rt; first && !again && facts.installed(0).is_some() && facts.installed(1).is_none());
+    assert!(rt; there && !other);
+    Ok(())
+}
+
+/// An object of the library, as a target.
+fn library(place: u32) -> Target {
+    Target::Object(Obj::Library(place))
+}
+
+#[test]
+fn targets_stand_in_order(rt: HostRuntime) -> Result<(), Fail> {
+    let alloc = rt.alloc();
+    let mut facts = Facts::new(alloc, 2);
+    let holder = Holder::Object(Obj::Arguments);
+    let mut grown = 0u32;
+    for place in [5, 1, 9, 1, 7] {
+        if facts.add(&Part::Target(holder, library(place)), &Held::Nothing)? {
+            grown = grown.wrapping_add(1);
+        }
+    }
+    let list = facts.target_list(holder, alloc)?;
+    let right = list == vec![in alloc; library(1), library(5), library(7), library(9)]?;
+    let last = facts.target(holder, 3) == Some(library(9)) && facts.target(holder, 4).is_none();
+    assert!(rt; grown == 4 && right && last);
     Ok(())
 }

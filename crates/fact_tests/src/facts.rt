@@ -1,5 +1,5 @@
 use abstract_values::{AbsSet, State};
-use base_core::{FnId, NodeId, Phase, Pos, Sig};
+use base_core::{FnId, NoMemory, NodeId, Phase, Pos, Sig};
 use call_ctx::{Cell, Ctx, Role, Side};
 use fact_values::{Consequences, Facts, Held, Holder, Installed, Obj, Part, Target};
 use std::test::Fail;
@@ -95,20 +95,24 @@ fn library(place: u32) -> Target {
     Target::Object(Obj::Library(place))
 }
 
+/// Adds that the arguments point to an object of the library.
+fn add_library(facts: &mut Facts, place: u32) -> Result<bool, NoMemory> {
+    let holder = Holder::Object(Obj::Arguments);
+    let target = Target::Object(Obj::Library(place));
+    facts.add(&Part::Target(holder, target), &Held::Nothing)
+}
+
 #[test]
 fn targets_stand_in_order(rt: HostRuntime) -> Result<(), Fail> {
     let alloc = rt.alloc();
     let mut facts = Facts::new(alloc, 2);
     let holder = Holder::Object(Obj::Arguments);
-    let mut grown = 0u32;
-    for place in [5, 1, 9, 1, 7] {
-        if facts.add(&Part::Target(holder, library(place)), &Held::Nothing)? {
-            grown = grown.wrapping_add(1);
-        }
-    }
+    let first = add_library(&mut facts, 5)? && add_library(&mut facts, 1)?;
+    let more = add_library(&mut facts, 9)? && add_library(&mut facts, 7)?;
+    let again = add_library(&mut facts, 1)?;
     let list = facts.target_list(holder, alloc)?;
     let right = list == vec![in alloc; library(1), library(5), library(7), library(9)]?;
     let last = facts.target(holder, 3) == Some(library(9)) && facts.target(holder, 4).is_none();
-    assert!(rt; grown == 4 && right && last);
+    assert!(rt; first && more && !again && right && last);
     Ok(())
 }

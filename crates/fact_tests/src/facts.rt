@@ -2,6 +2,7 @@ use abstract_values::{AbsSet, State};
 use base_core::{FnId, NoMemory, NodeId, Phase, Pos, Sig};
 use call_ctx::{Cell, Ctx, Role, Side};
 use fact_values::{Consequences, Facts, Held, Holder, Installed, Obj, Part, Target};
+use std::alloc::Global;
 use std::test::Fail;
 
 #[test]
@@ -20,6 +21,16 @@ fn adding_succeeds(rt: HostRuntime) -> Result<(), Fail> {
     Ok(())
 }
 
+/// Whether each list of facts is made.
+fn has_lists(facts: &Facts, alloc: Global) -> bool {
+    facts.cell_list(alloc).is_ok()
+        && facts.holder_list(alloc).is_ok()
+        && facts.installed_list(alloc).is_ok()
+        && facts.thread_list(alloc).is_ok()
+        && facts.fork_list(alloc).is_ok()
+        && facts.stirred_list(alloc).is_ok()
+}
+
 #[test]
 fn lists_are_made(rt: HostRuntime) -> Result<(), Fail> {
     let facts = Facts::new(rt.alloc(), 1);
@@ -35,12 +46,7 @@ fn lists_are_made(rt: HostRuntime) -> Result<(), Fail> {
     };
     assert!(rt; out.push(Part::Thread(FnId(1)), Held::Nothing).is_ok());
     assert!(rt; facts.copy(cell, &mut state).is_ok());
-    assert!(rt; facts.cell_list(rt.alloc()).is_ok());
-    assert!(rt; facts.holder_list(rt.alloc()).is_ok());
-    assert!(rt; facts.installed_list(rt.alloc()).is_ok());
-    assert!(rt; facts.thread_list(rt.alloc()).is_ok());
-    assert!(rt; facts.fork_list(rt.alloc()).is_ok());
-    assert!(rt; facts.stirred_list(rt.alloc()).is_ok());
+    assert!(rt; has_lists(&facts, rt.alloc()));
     Ok(())
 }
 
@@ -95,11 +101,26 @@ fn library(place: u32) -> Target {
     Target::Object(Obj::Library(place))
 }
 
-/// Adds that the arguments point to an object of the library.
-fn add_library(facts: &mut Facts, place: u32) -> Result<bool, NoMemory> {
-    let holder = Holder::Object(Obj::Arguments);
-    let target = Target::Object(Obj::Library(place));
-    facts.add(&Part::Target(holder, target), &Held::Nothing)
+/// Adds that the arguments point to these objects of the library, and gives how many were new.
+fn add_libraries(facts: &mut Facts, places: &[u32]) -> Result<u32, NoMemory> {
+    let mut new = 0u32;
+    for place in places {
+        let target = Target::Object(Obj::Library(*place));
+        let part = Part::Target(Holder::Object(Obj::Arguments), target);
+        if facts.add(&part, &Held::Nothing)? {
+            new = new.wrapping_add(1);
+        }
+    }
+    Ok(new)
+}
+
+/// Whether the list has the objects of the library at 1, 5, 7 and 9.
+fn are_four(list: &[Target]) -> bool {
+    list.len() == 4
+        && list.get(0) == Some(&library(1))
+        && list.get(1) == Some(&library(5))
+        && list.get(2) == Some(&library(7))
+        && list.get(3) == Some(&library(9))
 }
 
 #[test]
@@ -107,12 +128,9 @@ fn targets_stand_in_order(rt: HostRuntime) -> Result<(), Fail> {
     let alloc = rt.alloc();
     let mut facts = Facts::new(alloc, 2);
     let holder = Holder::Object(Obj::Arguments);
-    let first = add_library(&mut facts, 5)? && add_library(&mut facts, 1)?;
-    let more = add_library(&mut facts, 9)? && add_library(&mut facts, 7)?;
-    let again = add_library(&mut facts, 1)?;
-    let list = facts.target_list(holder, alloc)?;
-    let right = list == vec![in alloc; library(1), library(5), library(7), library(9)]?;
+    let new = add_libraries(&mut facts, &[5, 1, 9, 1, 7])?;
     let last = facts.target(holder, 3) == Some(library(9)) && facts.target(holder, 4).is_none();
-    assert!(rt; first && more && !again && right && last);
+    let list = facts.target_list(holder, alloc)?;
+    assert!(rt; new == 4 && last && are_four(&list));
     Ok(())
 }

@@ -27,7 +27,7 @@ use Rattle.fact_values.specs.Facts.{View, view, consequence, handler_cmp, fork_c
 use Rattle.fact_values.proofs.Exact.{exact_holder}
 use Rattle.fact_values.proofs.Signals.{installed_left, installed_right, installed_least as installed_below}
 use Rattle.abstract_values.proofs.Sets.{set_join_some}
-use Rattle.fact_values.proofs.Ascending.{sorted_one}
+use Rattle.fact_values.proofs.Keys.{sorted_one}
 use Rattle.fact_values.proofs.Holding.{below_refl, state_new, state_joined, installed_new, installed_joined, with_state, with_installed, with_target, with_thread, with_fork, with_stirred, state_bounds, installed_bounds, target_bounds, target_least, thread_least, fork_least, stirred_least}
 
 -- the facts have changed to the least with a consequence that they did not hold

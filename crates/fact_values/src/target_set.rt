@@ -5,43 +5,47 @@ ghost use Rattle.fact_values.specs.Objects.{target_cmp, has_target, is_empty, In
 use crate::Target;
 use base_core::NoMemory;
 use std::alloc::Global;
+use std::collections::BTreeSet;
 use std::marker::Model;
 
 /// Targets in their order. A contract sees the list.
 #[derive(Drop)]
 pub(crate) struct TargetSet {
-    items: Vec<Target>,
+    items: BTreeSet<Target>,
 }
 
 impl Model for TargetSet {
     ghost use Rattle.std.specs.Prelude.{List};
-    ghost use Rattle.std.specs.List.Sorted.{IsStrictlySortedBy};
     ghost use Rattle.fact_values.specs.declared.object.Target.{Target};
-    ghost use Rattle.fact_values.specs.Objects.{target_cmp};
 
     ghost Value = { List Target };
 
-    ghost view = { λ s. s.items.items };
-
-    ghost invariant = { λ s. IsStrictlySortedBy target_cmp s.items.items };
+    ghost view = { λ s. s.items.keys };
 }
 
 impl TargetSet {
-    /// The k-th target, from 0; None exactly from their number on.
+    /// The k-th target, from 0; None exactly from their number on. It takes time like k.
     pub(crate) fn at(&self, k: usize) -> Option<Target>
         ensures { result ≡ slice_get self.now k }
     {
-        self.items.get(k).copied()
+        self.items.iter().nth(k).copied()
+    }
+
+    /// The targets, in order.
+    pub(crate) fn list(&self, alloc: Global) -> Result<Vec<Target>, NoMemory>
+        ensures { IfOk result (λ targets. targets.items ≡ self.now) }
+    {
+        match self.items.iter().copied().collect(alloc) {
+            Ok(targets) => Ok(targets),
+            Err(_) => Err(NoMemory),
+        }
     }
 
     /// Whether it is one of these targets.
     pub(crate) fn has(&self, target: Target) -> bool
         ensures { result ≡ has_target self.now target }
     {
-        match self.items.binary_search(&target) {
-            Ok(_) => true,
-            Err(_) => false,
-        }
+        self.items.contains(&target)
     }
 
     /// Takes the target in; true exactly where it was none of these. Without memory all stays.
@@ -51,14 +55,9 @@ impl TargetSet {
         ensures some { is_empty self.old ≡ false → is_empty self.new ≡ false }
         ensures err { OnErr result (self.new ≡ self.old) }
     {
-        match self.items.binary_search(&target) {
-            Ok(_) => Ok(false),
-            Err(place) => {
-                let Ok(()) = self.items.insert(place, target) else {
-                    return Err(NoMemory);
-                };
-                Ok(true)
-            }
+        match self.items.insert(target) {
+            Ok(grew) => Ok(grew),
+            Err(_) => Err(NoMemory),
         }
     }
 
@@ -66,10 +65,10 @@ impl TargetSet {
     pub(crate) fn of(alloc: Global, target: Target) -> Result<TargetSet, NoMemory>
         ensures { IfOk result (λ targets. targets ≡ target ∷ []) }
     {
-        let mut items = Vec::new(alloc);
-        let Ok(()) = items.push(target) else {
-            return Err(NoMemory);
-        };
-        Ok(TargetSet { items })
+        let mut items = BTreeSet::new(alloc);
+        match items.insert(target) {
+            Ok(_) => Ok(TargetSet { items }),
+            Err(_) => Err(NoMemory),
+        }
     }
 }

@@ -1,11 +1,13 @@
 ghost use Rattle.std.specs.Prelude.{◌≡◌, map, IfOk};
+ghost use Rattle.fact_values.specs.Facts.{targets_at};
 
 use super::Facts;
-use crate::{Holder, Obj};
-use base_core::NoMemory;
-use call_ctx::Cell;
+use crate::{Holder, Obj, Target};
+use base_core::{FnId, NoMemory, Sig};
+use call_ctx::{Cell, Role};
 use std::alloc::Global;
 
+/// The lists take time like their length.
 impl Facts {
     /// The cells that have a state, in order.
     pub fn cell_list(&self, alloc: Global) -> Result<Vec<Cell>, NoMemory>
@@ -23,6 +25,46 @@ impl Facts {
     {
         match self.targets.keys().copied().collect(alloc) {
             Ok(holders) => Ok(holders),
+            Err(_) => Err(NoMemory),
+        }
+    }
+
+    /// The targets of the holder, in order.
+    pub fn target_list(&self, h: Holder, alloc: Global) -> Result<Vec<Target>, NoMemory>
+        ensures { IfOk result (λ targets. targets.items ≡ targets_at self.now.lists h) }
+    {
+        match self.targets.get(&h) {
+            None => Ok(Vec::new(alloc)),
+            Some(targets) => targets.list(alloc),
+        }
+    }
+
+    /// The signals with the functions that are installed for them, in order; [`Facts::installed_at`] tells how.
+    pub fn installed_list(&self, alloc: Global) -> Result<Vec<(Sig, FnId)>, NoMemory>
+        ensures { IfOk result (λ pairs. pairs.items ≡ map (λ e. e.0) self.now.lists.installed) }
+    {
+        match self.installed.keys().copied().collect(alloc) {
+            Ok(pairs) => Ok(pairs),
+            Err(_) => Err(NoMemory),
+        }
+    }
+
+    /// The functions that threads start with, in order.
+    pub fn thread_list(&self, alloc: Global) -> Result<Vec<FnId>, NoMemory>
+        ensures { IfOk result (λ functions. functions.items ≡ self.now.lists.threads) }
+    {
+        match self.threads.iter().copied().collect(alloc) {
+            Ok(functions) => Ok(functions),
+            Err(_) => Err(NoMemory),
+        }
+    }
+
+    /// The fork handlers, in order.
+    pub fn fork_list(&self, alloc: Global) -> Result<Vec<(Role, FnId)>, NoMemory>
+        ensures { IfOk result (λ handlers. handlers.items ≡ self.now.lists.forks) }
+    {
+        match self.forks.iter().copied().collect(alloc) {
+            Ok(handlers) => Ok(handlers),
             Err(_) => Err(NoMemory),
         }
     }

@@ -74,7 +74,8 @@ impl Facts {
         self.targets.keys().nth(k).copied()
     }
 
-    /// The k-th target of the holder, from 0; None exactly from their number on.
+    /// The k-th target of the holder, from 0; None exactly from their number on. It takes time like k: a walk goes by
+    /// [`Facts::target_list`].
     pub fn target(&self, h: Holder, k: usize) -> Option<Target>
         ensures { result ≡ slice_get (targets_at self.now.lists h) k }
     {
@@ -84,7 +85,15 @@ impl Facts {
         }
     }
 
-    /// The k-th function that is installed for a signal, from 0; None exactly from their number on.
+    /// How the function is installed for the signal; None exactly where it is not.
+    pub fn installed_at(&self, signal: Sig, function: FnId) -> Option<Installed>
+        ensures { result ≡ (view self.now.lists).installed_at signal function }
+    {
+        self.installed.get(&(signal, function)).copied()
+    }
+
+    /// The k-th function that is installed for a signal, from 0; None exactly from their number on. It takes time like
+    /// k: a walk goes by [`Facts::installed_list`].
     pub fn installed(&self, k: usize) -> Option<(Sig, FnId, Installed)>
         ensures { result ≡ option_map (λ e. (e.0.0, e.0.1, e.1)) (slice_get self.now.lists.installed k) }
     {
@@ -94,21 +103,24 @@ impl Facts {
         }
     }
 
-    /// The k-th function that threads start with, from 0; None exactly from their number on.
+    /// The k-th function that threads start with, from 0; None exactly from their number on. It takes time like k: a
+    /// walk goes by [`Facts::thread_list`].
     pub fn thread(&self, k: usize) -> Option<FnId>
         ensures { result ≡ slice_get self.now.lists.threads k }
     {
         self.threads.iter().nth(k).copied()
     }
 
-    /// The k-th fork handler, from 0; None exactly from their number on.
+    /// The k-th fork handler, from 0; None exactly from their number on. It takes time like k: a walk goes by
+    /// [`Facts::fork_list`].
     pub fn fork(&self, k: usize) -> Option<(Role, FnId)>
         ensures { result ≡ slice_get self.now.lists.forks k }
     {
         self.forks.iter().nth(k).copied()
     }
 
-    /// The k-th stirred object, from 0; None exactly from their number on.
+    /// The k-th stirred object, from 0; None exactly from their number on. It takes time like k: a walk goes by
+    /// [`Facts::stirred_list`].
     pub fn stirred(&self, k: usize) -> Option<Obj>
         ensures { result ≡ slice_get self.now.lists.stirred k }
     {

@@ -1,4 +1,3 @@
-pub mod Context
 pub mod Nests
 pub mod Parts
 pub mod InitNests

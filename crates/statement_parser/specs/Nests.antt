@@ -14,14 +14,13 @@ use Rattle.statement_parser.specs.declared.reader.Nested.{Nested}
 use Rattle.statement_parser.specs.declared.reader.Nested.TheVariants as n
 use Rattle.statement_parser.specs.declared.reader.Found.{Found}
 use Rattle.statement_parser.specs.declared.reader.Found.TheVariants as f
-use Rattle.statement_parser.specs.Context.{view_context}
 
 -- what was found is what nests
 abbrev pub Finds : NameEnvironment → ℕ → Nested → Input → Result Found Refusal → Input → Type 0
-Finds types d (n.Statement context owed) i (Ok (f.Statement x)) j = read (a_statement types d (view_context context) owed) i ≡ got (view_statement x) j.rest j.meter
-Finds types d (n.Block context) i (Ok (f.Block xs)) j = read (all_statements types d (view_context context)) i ≡ got (statements_of (map view_statement xs)) j.rest j.meter
-Finds types d (n.Statement context owed) i (Err e) j = Fails (read (a_statement types d (view_context context) owed) i) e
-Finds types d (n.Block context) i (Err e) j = Fails (read (all_statements types d (view_context context)) i) e
+Finds types d (n.Statement context owed) i (Ok (f.Statement x)) j = read (a_statement types d context owed) i ≡ got (view_statement x) j.rest j.meter
+Finds types d (n.Block context) i (Ok (f.Block xs)) j = read (all_statements types d context) i ≡ got (statements_of (map view_statement xs)) j.rest j.meter
+Finds types d (n.Statement context owed) i (Err e) j = Fails (read (a_statement types d context owed) i) e
+Finds types d (n.Block context) i (Err e) j = Fails (read (all_statements types d context) i) e
 Finds types d _ i (Ok _) j = ⊥
 
 -- its depth and what it owes are counted in 32 bits

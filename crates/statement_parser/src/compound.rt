@@ -11,7 +11,6 @@ ghost use Rattle.c_grammar.specs.Rules.{statement_by, else_by};
 ghost use Rattle.c_grammar.specs.Gives.{Gives};
 ghost use Rattle.statement_parser.specs.Nests.{Nests};
 ghost use Rattle.statement_parser.specs.Parts.{condition, if_branch, while_repeated, do_condition, do_ended, for_tested, for_repeated, switched};
-ghost use Rattle.statement_parser.specs.Context.{view_context};
 
 use crate::context::Context;
 use crate::optional::{optional, start, unboxed};
@@ -106,7 +105,7 @@ impl<
     ) -> Result<Boxed<Stmt>, Refusal>
         requires nests { Nests self.now.budget (F.pre self.now.read) (F.post self.now.read) }
         requires small { d ≤ 1000 }
-        ensures { Gives view_statement (perform (statement_by self.now.types.now d (view_context context) owed k.OpenBrace) cursor.old) result cursor.new }
+        ensures { Gives view_statement (perform (statement_by self.now.types.now d context owed k.OpenBrace) cursor.old) result cursor.new }
     {
         spend(cursor, owed, d + 1)?;
         cursor.take();
@@ -126,7 +125,7 @@ impl<
     ) -> Result<Boxed<Stmt>, Refusal>
         requires nests { Nests self.now.budget (F.pre self.now.read) (F.post self.now.read) }
         requires small { d ≤ 1000 }
-        ensures { Gives view_statement (perform (else_by self.now.types.now d (view_context context) (view_expression condition) (view_statement branch) k.Else) cursor.old) result cursor.new }
+        ensures { Gives view_statement (perform (else_by self.now.types.now d context (view_expression condition) (view_statement branch) k.Else) cursor.old) result cursor.new }
     {
         spend(cursor, 1, d + 2)?;
         cursor.take();
@@ -147,7 +146,7 @@ impl<
     ) -> Result<Boxed<Stmt>, Refusal>
         requires nests { Nests self.now.budget (F.pre self.now.read) (F.post self.now.read) }
         requires small { d ≤ 1000 }
-        ensures { Gives view_statement (perform (look [] (else_by self.now.types.now d (view_context context) (view_expression condition) (view_statement branch))) cursor.old) result cursor.new }
+        ensures { Gives view_statement (perform (look [] (else_by self.now.types.now d context (view_expression condition) (view_statement branch))) cursor.old) result cursor.new }
     {
         match cursor.kind() {
             Kind::Else => self.other_branch(cursor, d, context, condition, branch),
@@ -165,7 +164,7 @@ impl<
     ) -> Result<Boxed<Stmt>, Refusal>
         requires nests { Nests self.now.budget (F.pre self.now.read) (F.post self.now.read) }
         requires small { d ≤ 998 }
-        ensures { Gives view_statement (perform (if_branch self.now.types.now d (view_context context) (view_expression condition)) cursor.old) result cursor.new }
+        ensures { Gives view_statement (perform (if_branch self.now.types.now d context (view_expression condition)) cursor.old) result cursor.new }
     {
         let branch = self.statement(cursor, d + 1, context.of_branch(), 0)?;
         self.alternative(cursor, d, context, condition, branch)
@@ -182,7 +181,7 @@ impl<
         requires nests { Nests self.now.budget (F.pre self.now.read) (F.post self.now.read) }
         requires small { d ≤ 1000 }
         requires few { owed ≤ 999 }
-        ensures { Gives view_statement (perform (statement_by self.now.types.now d (view_context context) owed k.If) cursor.old) result cursor.new }
+        ensures { Gives view_statement (perform (statement_by self.now.types.now d context owed k.If) cursor.old) result cursor.new }
     {
         let condition = condition(self.alloc, self.types, cursor, d, owed)?;
         self.if_branch(cursor, d, context, condition)
@@ -199,7 +198,7 @@ impl<
     ) -> Result<Boxed<Stmt>, Refusal>
         requires nests { Nests self.now.budget (F.pre self.now.read) (F.post self.now.read) }
         requires small { d ≤ 998 }
-        ensures { Gives view_statement (perform (while_repeated self.now.types.now d (view_context context) (view_expression condition)) cursor.old) result cursor.new }
+        ensures { Gives view_statement (perform (while_repeated self.now.types.now d context (view_expression condition)) cursor.old) result cursor.new }
     {
         let repeated = self.statement(cursor, d + 1, context.of_loop(), 0)?;
         let condition = condition.into_inner();
@@ -217,7 +216,7 @@ impl<
         requires nests { Nests self.now.budget (F.pre self.now.read) (F.post self.now.read) }
         requires small { d ≤ 1000 }
         requires few { owed ≤ 999 }
-        ensures { Gives view_statement (perform (statement_by self.now.types.now d (view_context context) owed k.While) cursor.old) result cursor.new }
+        ensures { Gives view_statement (perform (statement_by self.now.types.now d context owed k.While) cursor.old) result cursor.new }
     {
         let condition = condition(self.alloc, self.types, cursor, d, owed)?;
         self.while_repeated(cursor, d, context, condition)
@@ -234,7 +233,7 @@ impl<
         requires nests { Nests self.now.budget (F.pre self.now.read) (F.post self.now.read) }
         requires small { d ≤ 1000 }
         requires few { owed ≤ 999 }
-        ensures { Gives view_statement (perform (statement_by self.now.types.now d (view_context context) owed k.Do) cursor.old) result cursor.new }
+        ensures { Gives view_statement (perform (statement_by self.now.types.now d context owed k.Do) cursor.old) result cursor.new }
     {
         spend(cursor, owed + 2, d + 2)?;
         cursor.take();
@@ -255,7 +254,7 @@ impl<
     ) -> Result<Boxed<Stmt>, Refusal>
         requires nests { Nests self.now.budget (F.pre self.now.read) (F.post self.now.read) }
         requires small { d ≤ 998 }
-        ensures { Gives view_statement (perform (for_repeated self.now.types.now d (view_context context) (view_start first) (option_map view_expression test) (option_map view_expression step)) cursor.old) result cursor.new }
+        ensures { Gives view_statement (perform (for_repeated self.now.types.now d context (view_start first) (option_map view_expression test) (option_map view_expression step)) cursor.old) result cursor.new }
     {
         let repeated = self.statement(cursor, d + 1, context.of_loop(), 0)?;
         Ok(Boxed::new(
@@ -274,7 +273,7 @@ impl<
     ) -> Result<Boxed<Stmt>, Refusal>
         requires nests { Nests self.now.budget (F.pre self.now.read) (F.post self.now.read) }
         requires small { d ≤ 998 }
-        ensures { Gives view_statement (perform (for_tested self.now.types.now d (view_context context) (view_start first)) cursor.old) result cursor.new }
+        ensures { Gives view_statement (perform (for_tested self.now.types.now d context (view_start first)) cursor.old) result cursor.new }
     {
         let test = optional(self.alloc, self.types, cursor, d + 1, Kind::Semicolon)?;
         let step = optional(self.alloc, self.types, cursor, d + 1, Kind::CloseParen)?;
@@ -292,7 +291,7 @@ impl<
         requires nests { Nests self.now.budget (F.pre self.now.read) (F.post self.now.read) }
         requires small { d ≤ 1000 }
         requires few { owed ≤ 999 }
-        ensures { Gives view_statement (perform (statement_by self.now.types.now d (view_context context) owed k.For) cursor.old) result cursor.new }
+        ensures { Gives view_statement (perform (statement_by self.now.types.now d context owed k.For) cursor.old) result cursor.new }
     {
         spend(cursor, owed + 1, d + 2)?;
         cursor.take();
@@ -312,7 +311,7 @@ impl<
     ) -> Result<Boxed<Stmt>, Refusal>
         requires nests { Nests self.now.budget (F.pre self.now.read) (F.post self.now.read) }
         requires small { d ≤ 998 }
-        ensures { Gives view_statement (perform (switched self.now.types.now d (view_context context) (view_expression value)) cursor.old) result cursor.new }
+        ensures { Gives view_statement (perform (switched self.now.types.now d context (view_expression value)) cursor.old) result cursor.new }
     {
         expect(cursor, Kind::OpenBrace)?;
         let found = self.block(cursor, d + 2, context.of_switch())?;
@@ -331,7 +330,7 @@ impl<
         requires nests { Nests self.now.budget (F.pre self.now.read) (F.post self.now.read) }
         requires small { d ≤ 1000 }
         requires few { owed ≤ 999 }
-        ensures { Gives view_statement (perform (statement_by self.now.types.now d (view_context context) owed k.Switch) cursor.old) result cursor.new }
+        ensures { Gives view_statement (perform (statement_by self.now.types.now d context owed k.Switch) cursor.old) result cursor.new }
     {
         let value = condition(self.alloc, self.types, cursor, d, owed)?;
         self.switched(cursor, d, context, value)

@@ -2,9 +2,11 @@
 
 ghost use Rattle.std.specs.Prelude.{◌≡◌};
 ghost use Rattle.c_tree.specs.Shape as shape;
-ghost use Rattle.statement_parser.specs.Context.{view_context};
 
-/// Where a statement stands: in a loop, in a switch, directly in a block, directly in the block of a switch.
+use std::marker::Model;
+
+/// The context of the rules as code holds it: whether a statement stands in a loop, in a switch, directly in a block, directly in
+/// the block of a switch. Contracts see the record of the rules alone.
 #[derive(Clone, Copy)]
 pub struct Context {
     pub in_loop: bool,
@@ -13,10 +15,20 @@ pub struct Context {
     pub in_cases: bool,
 }
 
+impl Model for Context {
+    ghost use Rattle.c_tree.specs.Shape as shape;
+
+    ghost Value = { shape.Context };
+
+    ghost view = { λ c. record { in_loop = c.in_loop; in_switch = c.in_switch; in_block = c.in_block; in_cases = c.in_cases } };
+
+    ghost inverse = { λ c. record { in_loop = c.in_loop; in_switch = c.in_switch; in_block = c.in_block; in_cases = c.in_cases } };
+}
+
 impl Context {
     /// Outside every loop, switch and block.
     pub fn outside() -> Self
-        ensures { view_context result ≡ shape.outside }
+        ensures { result ≡ shape.outside }
     {
         Context {
             in_loop: false,
@@ -28,7 +40,7 @@ impl Context {
 
     /// The context of a loop's body.
     pub fn of_loop(self) -> Self
-        ensures { view_context result ≡ shape.of_loop (view_context self) }
+        ensures { result ≡ shape.of_loop self }
     {
         Context {
             in_loop: true,
@@ -40,7 +52,7 @@ impl Context {
 
     /// The context of a branch.
     pub fn of_branch(self) -> Self
-        ensures { view_context result ≡ shape.of_branch (view_context self) }
+        ensures { result ≡ shape.of_branch self }
     {
         Context {
             in_loop: self.in_loop,
@@ -52,7 +64,7 @@ impl Context {
 
     /// The context of a statement of a block.
     pub fn of_block(self) -> Self
-        ensures { view_context result ≡ shape.of_block (view_context self) }
+        ensures { result ≡ shape.of_block self }
     {
         Context {
             in_loop: self.in_loop,
@@ -64,7 +76,7 @@ impl Context {
 
     /// The context of a statement of a switch's block.
     pub fn of_switch(self) -> Self
-        ensures { view_context result ≡ shape.of_switch (view_context self) }
+        ensures { result ≡ shape.of_switch self }
     {
         Context {
             in_loop: self.in_loop,

@@ -8,7 +8,6 @@ ghost use Rattle.c_grammar.specs.Rules.{all_statements};
 ghost use Rattle.c_grammar.specs.Gives.{Gives};
 ghost use Rattle.statement_parser.specs.Nests.{Nests};
 ghost use Rattle.statement_parser.specs.Parts.{one_statement};
-ghost use Rattle.statement_parser.specs.Context.{view_context};
 
 use crate::context::Context;
 use crate::reader::{Found, Nested, Statements};
@@ -32,7 +31,7 @@ impl<
     fn one(&self, cursor: &mut Cursor<'_>, d: u32, context: Context) -> Result<Boxed<Stmt>, Refusal>
         requires nests { Nests self.now.budget (F.pre self.now.read) (F.post self.now.read) }
         requires small { d ≤ 1000 }
-        ensures { Gives view_statement (perform (one_statement self.now.types.now d (view_context context)) cursor.old) result cursor.new }
+        ensures { Gives view_statement (perform (one_statement self.now.types.now d context) cursor.old) result cursor.new }
     {
         let before = cursor.left();
         let found = self.statement(cursor, d, context, 1)?;
@@ -51,7 +50,7 @@ impl<
     ) -> Result<Items<Stmt>, Refusal>
         requires nests { Nests self.now.budget (F.pre self.now.read) (F.post self.now.read) }
         requires small { d ≤ 1000 }
-        ensures { Gives (λ ss. statements_of (map view_statement ss)) (read (all_statements self.now.types.now d (view_context context)) cursor.old) result cursor.new }
+        ensures { Gives (λ ss. statements_of (map view_statement ss)) (read (all_statements self.now.types.now d context) cursor.old) result cursor.new }
     {
         let mut found = Items::new(self.alloc);
         while !same_kind(kind(self.types, cursor), Kind::CloseBrace) {

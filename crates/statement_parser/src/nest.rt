@@ -6,7 +6,6 @@ ghost use Rattle.c_grammar.specs.Reading.{read};
 ghost use Rattle.c_grammar.specs.Rules.{all_statements};
 ghost use Rattle.c_grammar.specs.Gives.{Gives};
 ghost use Rattle.statement_parser.specs.Nests.{Finds, IsSmall};
-ghost use Rattle.statement_parser.specs.Context.{view_context};
 
 use crate::context::Context;
 use crate::reader::{Found, Nested, Statements};
@@ -56,7 +55,7 @@ pub fn block(
     context: Context,
 ) -> Result<Items<Stmt>, Refusal>
     requires { d ≤ 1000 }
-    ensures { Gives (λ ss. statements_of (map view_statement ss)) (read (all_statements types.now d (view_context context)) cursor.old) result cursor.new }
+    ensures { Gives (λ ss. statements_of (map view_statement ss)) (read (all_statements types.now d context) cursor.old) result cursor.new }
 {
     Statements {
         alloc,

@@ -6,7 +6,6 @@ ghost use Rattle.c_grammar.specs.Reading.{read};
 ghost use Rattle.c_grammar.specs.Rules.{a_statement, all_statements};
 ghost use Rattle.c_grammar.specs.Gives.{Gives};
 ghost use Rattle.statement_parser.specs.Nests.{Nests};
-ghost use Rattle.statement_parser.specs.Context.{view_context};
 
 use crate::context::Context;
 use c_grammar::{Cursor, NameEnvironment, Refusal};
@@ -60,7 +59,7 @@ impl<
         requires nests { Nests self.now.budget (F.pre self.now.read) (F.post self.now.read) }
         requires small { d ≤ 1000 }
         requires few { owed ≤ 999 }
-        ensures { Gives view_statement (read (a_statement self.now.types.now d (view_context context) owed) cursor.old) result cursor.new }
+        ensures { Gives view_statement (read (a_statement self.now.types.now d context owed) cursor.old) result cursor.new }
     {
         match (self.read)(
             self.alloc,
@@ -85,7 +84,7 @@ impl<
     ) -> Result<Items<Stmt>, Refusal>
         requires nests { Nests self.now.budget (F.pre self.now.read) (F.post self.now.read) }
         requires small { d ≤ 1000 }
-        ensures { Gives (λ ss. statements_of (map view_statement ss)) (read (all_statements self.now.types.now d (view_context context)) cursor.old) result cursor.new }
+        ensures { Gives (λ ss. statements_of (map view_statement ss)) (read (all_statements self.now.types.now d context) cursor.old) result cursor.new }
     {
         match (self.read)(
             self.alloc,

@@ -1,6 +1,7 @@
 //! Statements that hold no others.
 
 ghost use Rattle.std.specs.Prelude.{◌≡◌, ◌≤◌, []};
+ghost use Rattle.c_tree.specs.Shape.{outside};
 ghost use Rattle.c_tree.specs.StatementView.{view_statement};
 ghost use Rattle.c_grammar.specs.declared.kind.Kind.TheVariants as k;
 ghost use Rattle.c_grammar.specs.Body.{look};
@@ -9,7 +10,6 @@ ghost use Rattle.c_grammar.specs.Rules as rules;
 ghost use Rattle.c_grammar.specs.Rules.{statement_by, labelled_by};
 ghost use Rattle.c_grammar.specs.Gives.{Gives};
 ghost use Rattle.statement_parser.specs.Parts as parts;
-ghost use Rattle.statement_parser.specs.Context.{view_context};
 
 use crate::context::Context;
 use crate::local::declaration;
@@ -110,7 +110,7 @@ pub fn named(
 ) -> Result<Boxed<Stmt>, Refusal>
     requires small { d ≤ 1000 }
     requires few { owed ≤ 999 }
-    ensures { Gives view_statement (perform (parts.plain_by types.now d (view_context context) owed k.Name) cursor.old) result cursor.new }
+    ensures { Gives view_statement (perform (parts.plain_by types.now d context owed k.Name) cursor.old) result cursor.new }
 {
     if !context.in_block {
         return expressed(alloc, types, cursor, d, owed);
@@ -131,7 +131,7 @@ pub fn declared(
     owed: u32,
 ) -> Result<Boxed<Stmt>, Refusal>
     requires small { d ≤ 1000 }
-    ensures { Gives view_statement (perform (parts.declared types.now d (view_context context) owed) cursor.old) result cursor.new }
+    ensures { Gives view_statement (perform (parts.declared types.now d context owed) cursor.old) result cursor.new }
 {
     if !context.in_block {
         return Err(refused(cursor));
@@ -148,11 +148,10 @@ pub fn empty(
     types: &NameEnvironment<'_>,
     cursor: &mut Cursor<'_>,
     d: u32,
-    context: Context,
     owed: u32,
 ) -> Result<Boxed<Stmt>, Refusal>
     requires small { d ≤ 1000 }
-    ensures { Gives view_statement (perform (statement_by types.now d (view_context context) owed k.Semicolon) cursor.old) result cursor.new }
+    ensures { Gives view_statement (perform (statement_by types.now d outside owed k.Semicolon) cursor.old) result cursor.new }
 {
     spend(cursor, owed, d + 1)?;
     cursor.take();
@@ -171,7 +170,7 @@ pub fn case(
 ) -> Result<Boxed<Stmt>, Refusal>
     requires small { d ≤ 1000 }
     requires few { owed ≤ 999 }
-    ensures { Gives view_statement (perform (statement_by types.now d (view_context context) owed k.Case) cursor.old) result cursor.new }
+    ensures { Gives view_statement (perform (statement_by types.now d context owed k.Case) cursor.old) result cursor.new }
 {
     if !context.in_cases {
         return Err(refused(cursor));
@@ -194,7 +193,7 @@ pub fn default(
     owed: u32,
 ) -> Result<Boxed<Stmt>, Refusal>
     requires small { d ≤ 1000 }
-    ensures { Gives view_statement (perform (statement_by types.now d (view_context context) owed k.Default) cursor.old) result cursor.new }
+    ensures { Gives view_statement (perform (statement_by types.now d context owed k.Default) cursor.old) result cursor.new }
 {
     if !context.in_cases {
         return Err(refused(cursor));
@@ -216,7 +215,7 @@ pub fn break_out(
     owed: u32,
 ) -> Result<Boxed<Stmt>, Refusal>
     requires small { d ≤ 1000 }
-    ensures { Gives view_statement (perform (statement_by types.now d (view_context context) owed k.Break) cursor.old) result cursor.new }
+    ensures { Gives view_statement (perform (statement_by types.now d context owed k.Break) cursor.old) result cursor.new }
 {
     if !(context.in_loop || context.in_switch) {
         return Err(refused(cursor));
@@ -238,7 +237,7 @@ pub fn continue_on(
     owed: u32,
 ) -> Result<Boxed<Stmt>, Refusal>
     requires small { d ≤ 1000 }
-    ensures { Gives view_statement (perform (statement_by types.now d (view_context context) owed k.Continue) cursor.old) result cursor.new }
+    ensures { Gives view_statement (perform (statement_by types.now d context owed k.Continue) cursor.old) result cursor.new }
 {
     if !context.in_loop {
         return Err(refused(cursor));
@@ -256,13 +255,11 @@ pub fn return_back(
     types: &NameEnvironment<'_>,
     cursor: &mut Cursor<'_>,
     d: u32,
-    context: Context,
     owed: u32,
 ) -> Result<Boxed<Stmt>, Refusal>
     requires small { d ≤ 1000 }
-    ensures { Gives view_statement (perform (statement_by types.now d (view_context context) owed k.Return) cursor.old) result cursor.new }
+    ensures { Gives view_statement (perform (statement_by types.now d outside owed k.Return) cursor.old) result cursor.new }
 {
-    let _ = context;
     spend(cursor, owed, d + 1)?;
     cursor.take();
     let value = optional(alloc, types, cursor, d + 1, Kind::Semicolon)?;
@@ -276,13 +273,11 @@ pub fn go_to(
     types: &NameEnvironment<'_>,
     cursor: &mut Cursor<'_>,
     d: u32,
-    context: Context,
     owed: u32,
 ) -> Result<Boxed<Stmt>, Refusal>
     requires small { d ≤ 1000 }
-    ensures { Gives view_statement (perform (statement_by types.now d (view_context context) owed k.Goto) cursor.old) result cursor.new }
+    ensures { Gives view_statement (perform (statement_by types.now d outside owed k.Goto) cursor.old) result cursor.new }
 {
-    let _ = context;
     spend(cursor, owed, d + 1)?;
     cursor.take();
     let label = name(alloc, types, cursor)?;

@@ -8,7 +8,6 @@ ghost use Rattle.c_grammar.specs.Rules.{a_statement, statement_by};
 ghost use Rattle.c_grammar.specs.Gives.{Gives};
 ghost use Rattle.statement_parser.specs.Nests.{Nests};
 ghost use Rattle.statement_parser.specs.Parts.{plain_by, simple_by};
-ghost use Rattle.statement_parser.specs.Context.{view_context};
 
 use crate::context::Context;
 use crate::optional::begins_declaration;
@@ -32,7 +31,7 @@ fn plain_statement(
 ) -> Result<Boxed<Stmt>, Refusal>
     requires small { d ≤ 1000 }
     requires few { owed ≤ 999 }
-    ensures { Gives view_statement (perform (plain_by types.now d (view_context context) owed kind) cursor.old) result cursor.new }
+    ensures { Gives view_statement (perform (plain_by types.now d context owed kind) cursor.old) result cursor.new }
 {
     match kind {
         Kind::Name => simple::named(alloc, types, cursor, d, context, owed),
@@ -58,16 +57,16 @@ fn simple_statement(
 ) -> Result<Boxed<Stmt>, Refusal>
     requires small { d ≤ 1000 }
     requires few { owed ≤ 999 }
-    ensures { Gives view_statement (perform (simple_by types.now d (view_context context) owed kind) cursor.old) result cursor.new }
+    ensures { Gives view_statement (perform (simple_by types.now d context owed kind) cursor.old) result cursor.new }
 {
     match kind {
-        Kind::Semicolon => simple::empty(alloc, types, cursor, d, context, owed),
+        Kind::Semicolon => simple::empty(alloc, types, cursor, d, owed),
         Kind::Case => simple::case(alloc, types, cursor, d, context, owed),
         Kind::Default => simple::default(alloc, types, cursor, d, context, owed),
         Kind::Break => simple::break_out(alloc, types, cursor, d, context, owed),
         Kind::Continue => simple::continue_on(alloc, types, cursor, d, context, owed),
-        Kind::Return => simple::return_back(alloc, types, cursor, d, context, owed),
-        Kind::Goto => simple::go_to(alloc, types, cursor, d, context, owed),
+        Kind::Return => simple::return_back(alloc, types, cursor, d, owed),
+        Kind::Goto => simple::go_to(alloc, types, cursor, d, owed),
         other => plain_statement(alloc, types, cursor, d, context, owed, other),
     }
 }
@@ -94,7 +93,7 @@ impl<
         requires nests { Nests self.now.budget (F.pre self.now.read) (F.post self.now.read) }
         requires small { d ≤ 1000 }
         requires few { owed ≤ 999 }
-        ensures { Gives view_statement (perform (statement_by self.now.types.now d (view_context context) owed kind) cursor.old) result cursor.new }
+        ensures { Gives view_statement (perform (statement_by self.now.types.now d context owed kind) cursor.old) result cursor.new }
     {
         match kind {
             Kind::OpenBrace => self.braced(cursor, d, context, owed),
@@ -119,7 +118,7 @@ impl<
         requires nests { Nests self.now.budget (F.pre self.now.read) (F.post self.now.read) }
         requires small { d ≤ 1000 }
         requires few { owed ≤ 999 }
-        ensures { Gives view_statement (read (a_statement self.now.types.now d (view_context context) owed) cursor.old) result cursor.new }
+        ensures { Gives view_statement (read (a_statement self.now.types.now d context owed) cursor.old) result cursor.new }
     {
         let kind = kind(self.types, cursor);
         self.begun(cursor, d, context, owed, kind)

@@ -1,6 +1,6 @@
 -- What a change of one list makes of facts.
 use Rattle.std.proofs.Common.{◌≡◌, ℕ, refl, sym, ap, ◌∙◌, subst, List, [], ◌∷◌, Bool, true, false, cond, not, ◌||◌, ◌&&◌}
-use Rattle.std.specs.Prelude.{Option, Some, None, IfSome, IsTrue, ◌↔◌, Result, Ok, Err, IfOk, OnErr}
+use Rattle.std.specs.Prelude.{Option, Some, None, IfSome, IsTrue, ◌↔◌, Result, Ok, Err, IfOk, OnOk, OnErr}
 use Rattle.std.specs.Bool.{OnFalse}
 use Rattle.std.specs.BTreeMap.{is_at}
 use Rattle.std.specs.Map.{lookup}
@@ -13,7 +13,7 @@ use Rattle.call_ctx.specs.declared.cell.Cell.{Cell}
 use Rattle.call_ctx.specs.Order.{cell_cmp}
 use Rattle.abstract_values.specs.declared.state.State.{State}
 use Rattle.abstract_values.specs.Sets.{IsSomeSet}
-use Rattle.abstract_values.specs.States.{IsJoin, IsWellFormed}
+use Rattle.abstract_values.specs.States.{Under, IsJoin, IsWellFormed}
 use Rattle.fact_values.specs.declared.object.Obj.{Obj}
 use Rattle.fact_values.specs.declared.object.Holder.{Holder}
 use Rattle.fact_values.specs.declared.object.Target.{Target}
@@ -252,3 +252,29 @@ pub stirred_adds : (old : FactLists) (list : List Obj) (o : Obj) (answer : Bool)
 stirred_adds old list o answer puts grew same =
     adds_key _ answer old (record old { stirred = list }) _ refl (stirred_put old list o puts) (stirred_least (view old) o) (not_held _ answer grew)
     (on_false answer _ _ (λ e. ap (λ (xs : List Obj). record old { stirred = xs }) e) same)
+
+-- a cell's state t has become the least above it and s
+module _ (old : FactLists) (facts : AreFacts old) (cells : List (Cell × State)) (c : Cell) (s t u : State)
+    (puts : (d : Cell) → lookup (is_at (cell_cmp d)) cells ≡ cond (is_at (cell_cmp c) d) (Some u) (lookup (is_at (cell_cmp d)) old.cells))
+    (is : lookup (is_at (cell_cmp c)) old.cells ≡ Some t) (join : IsJoin t s u) (formed : IsWellFormed t → IsWellFormed s → IsWellFormed u) where
+  over : IsNewState ((view old).state_at c) s u
+  over = state_over ((view old).state_at c) s t u is join formed
+
+  pub over_facts : IsFit old.depth (consequence (part.Cell c) (held.State s)) → AreFacts (record old { cells = cells })
+  over_facts fit = cells_facts old facts cells c s u puts over fit
+
+  pub over_adds : (answer : Bool) → IsTrue answer ↔ (Under s t → ⊥) → OnFalse answer (u ≡ t) → (u ≡ t → cells ≡ old.cells)
+      → Adds (consequence (part.Cell c) (held.State s)) answer old (record old { cells = cells })
+  over_adds answer grew same back = adds_key _ answer old (record old { cells = cells }) _ refl (cells_put old cells c u puts) (new_least (view old) c s u _ refl over)
+      (λ e h. grew.0 e (let there : t ≡ h.0 = (let x = h.1 in cc) in subst (λ v. Under s v) (sym there) h.2), λ none. grew.1 (λ x. none (t, is, x)))
+      (on_false answer _ _ (λ e. ap (λ (cs : List (Cell × State)). record old { cells = cs }) (back e)) same)
+
+-- what a call gave that did two things, or nothing
+pub both_or : {T E X : Type 0} (r : Result T E) (A B C : Type 0) → OnOk r A → OnOk r B → OnErr r C → (A → B → X) → (C → X) → X
+both_or (Ok x) A B C a b c f g = f a b
+both_or (Err e) A B C a b c f g = g c
+
+pub if_both : {T E : Type 0} (r : Result T E) (A B : Type 0) (P Q R : T → Type 0) → OnOk r A → OnOk r B → IfOk r P → IfOk r Q
+    → (A → B → (x : T) → P x → Q x → R x) → IfOk r R
+if_both (Ok x) A B P Q R a b p q f = f a b x p q
+if_both (Err e) A B P Q R a b p q f = tt

@@ -65,7 +65,7 @@ impl Model for Facts {
 }
 
 /// What is known at a cell besides its slots.
-#[derive(Clone, Copy, PartialEq, Eq)]
+#[derive(Clone, Copy)]
 pub struct Marks {
     pub mask: AbsSet,
     pub errno: AbsInt,

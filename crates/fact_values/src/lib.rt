@@ -11,6 +11,7 @@
 
 mod consequence;
 mod facts;
+mod keyed;
 mod laws;
 mod object;
 mod part;

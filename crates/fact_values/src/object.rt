@@ -1,9 +1,12 @@
+ghost use Rattle.std.specs.Ordering.{as_partial_cmp};
+
 use base_core::{FnId, NodeId, VarId};
 use call_ctx::Ctx;
+use std::cmp::Ordering;
 
 /// An object as facts speak of it: where it came from, and for some the context of the frame that made it. Objects are
 /// compared by their kind, then their number, then their context.
-#[derive(Clone, Copy, PartialEq, Eq, PartialOrd, Ord)]
+#[derive(Clone, Copy, PartialEq, Eq, Ord)]
 pub enum Obj {
     /// The object of a variable; for a static one in the context of main's first frame.
     Variable { variable: VarId, ctx: Ctx },
@@ -20,17 +23,56 @@ pub enum Obj {
     Arguments,
 }
 
+impl PartialOrd for Obj {
+    ghost use Rattle.fact_values.specs.contracts.object.ObjOrd.TheImpl as order;
+    ghost use Rattle.fact_values.specs.ByNumbers.{obj_partial};
+
+    ghost partial_cmp = { as_partial_cmp order.cmp-value.it };
+
+    ghost laws = { obj_partial };
+
+    fn partial_cmp(&self, other: &Obj) -> Option<Ordering> {
+        Some(self.cmp(other))
+    }
+}
+
 /// What may hold a pointer or a function.
-#[derive(Clone, Copy, PartialEq, Eq, PartialOrd, Ord)]
+#[derive(Clone, Copy, PartialEq, Eq, Ord)]
 pub enum Holder {
     Object(Obj),
     /// The value of a node, in a context.
     Node(NodeId, Ctx),
 }
 
+impl PartialOrd for Holder {
+    ghost use Rattle.fact_values.specs.contracts.object.HolderOrd.TheImpl as order;
+    ghost use Rattle.fact_values.specs.ByNumbers.{holder_partial};
+
+    ghost partial_cmp = { as_partial_cmp order.cmp-value.it };
+
+    ghost laws = { holder_partial };
+
+    fn partial_cmp(&self, other: &Holder) -> Option<Ordering> {
+        Some(self.cmp(other))
+    }
+}
+
 /// What a pointer may point to.
-#[derive(Clone, Copy, PartialEq, Eq, PartialOrd, Ord)]
+#[derive(Clone, Copy, PartialEq, Eq, Ord)]
 pub enum Target {
     Object(Obj),
     Function(FnId),
+}
+
+impl PartialOrd for Target {
+    ghost use Rattle.fact_values.specs.contracts.object.TargetOrd.TheImpl as order;
+    ghost use Rattle.fact_values.specs.ByNumbers.{target_partial};
+
+    ghost partial_cmp = { as_partial_cmp order.cmp-value.it };
+
+    ghost laws = { target_partial };
+
+    fn partial_cmp(&self, other: &Target) -> Option<Ordering> {
+        Some(self.cmp(other))
+    }
 }

@@ -1,13 +1,15 @@
 ghost use Rattle.std.specs.Prelude.{◌≡◌, ◌↔◌, IsTrue};
+ghost use Rattle.std.specs.Ordering.{as_partial_cmp};
 ghost use Rattle.fact_values.specs.Facts.{InstalledUnder, installed_join};
 
 use crate::{Holder, Obj, Target};
 use abstract_values::{AbsSet, State};
 use base_core::{FnId, Sig};
 use call_ctx::{Cell, Role};
+use std::cmp::Ordering;
 
 /// How a function is installed for a signal.
-#[derive(Clone, Copy, PartialEq, Eq)]
+#[derive(Clone, Copy)]
 pub struct Installed {
     /// What is blocked besides while it runs (POSIX.1-2017 XSH sigaction, `sa_mask`).
     pub mask: AbsSet,
@@ -35,7 +37,7 @@ impl Installed {
 }
 
 /// A part of facts, in the order in which parts are compared.
-#[derive(Clone, Copy, PartialEq, Eq, PartialOrd, Ord)]
+#[derive(Clone, Copy, PartialEq, Eq, Ord)]
 pub enum Part {
     /// The state of a cell.
     Cell(Cell),
@@ -48,6 +50,19 @@ pub enum Part {
     Fork(Role, FnId),
     /// An object that is written while a handler may run.
     Stirred(Obj),
+}
+
+impl PartialOrd for Part {
+    ghost use Rattle.fact_values.specs.contracts.part.PartOrd.TheImpl as order;
+    ghost use Rattle.fact_values.specs.ByNumbers.{part_partial};
+
+    ghost partial_cmp = { as_partial_cmp order.cmp-value.it };
+
+    ghost laws = { part_partial };
+
+    fn partial_cmp(&self, other: &Part) -> Option<Ordering> {
+        Some(self.cmp(other))
+    }
 }
 
 /// What a part must hold.

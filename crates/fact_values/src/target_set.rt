@@ -3,6 +3,7 @@ ghost use Rattle.std.specs.List.Sorted.{IsStrictlySortedBy};
 ghost use Rattle.fact_values.specs.Objects.{target_cmp, has_target, is_empty, InsertsTarget};
 
 use crate::Target;
+use crate::keyed::keys_of;
 use base_core::NoMemory;
 use std::alloc::Global;
 use std::collections::BTreeSet;
@@ -35,10 +36,7 @@ impl TargetSet {
     pub(crate) fn list(&self, alloc: Global) -> Result<Vec<Target>, NoMemory>
         ensures { IfOk result (λ targets. targets.items ≡ self.now) }
     {
-        match self.items.iter().copied().collect(alloc) {
-            Ok(targets) => Ok(targets),
-            Err(_) => Err(NoMemory),
-        }
+        keys_of(&self.items, alloc)
     }
 
     /// Whether it is one of these targets.

@@ -1,5 +1,5 @@
 ghost use Rattle.std.specs.Prelude.{◌≡◌, OnErr, IfOk};
-ghost use Rattle.fact_values.specs.Facts.{view, consequence, IsFit, Adds, IsNewState, IsNewInstalled};
+ghost use Rattle.fact_values.specs.Facts.{view, consequence, IsFit, Adds, IsNewInstalled};
 
 use super::Facts;
 use crate::target_set::TargetSet;
@@ -9,30 +9,17 @@ use base_core::{FnId, NoMemory, Sig};
 use call_ctx::{Cell, Role};
 
 impl Facts {
-    /// The state that the cell gets where it does not hold this one.
-    fn joined_at(&self, cell: Cell, state: &State) -> Result<State, NoMemory>
-        ensures { IfOk result (IsNewState ((view self.now.lists).state_at cell) state.now) }
-    {
-        match self.cells.get(&cell) {
-            None => state.copy(self.alloc),
-            Some(held) => {
-                let mut joined = held.copy(self.alloc)?;
-                joined.join(state)?;
-                Ok(joined)
-            }
-        }
-    }
-
     fn add_state(&mut self, cell: Cell, state: &State) -> Result<bool, NoMemory>
         requires { IsFit self.old.lists.depth (consequence (Part.Cell cell) (Held.State state.now)) }
         ensures adds { IfOk result (λ grew. Adds (consequence (Part.Cell cell) (Held.State state.now)) grew self.old.lists self.new.lists) }
         ensures err { OnErr result (self.new.lists ≡ self.old.lists) }
     {
-        if self.holds_state(cell, state) {
-            return Ok(false);
+        let alloc = self.alloc;
+        if let Some(held) = self.cells.get_mut(&cell) {
+            return held.join(state);
         }
-        let joined = self.joined_at(cell, state)?;
-        let Ok(_) = self.cells.insert(cell, joined) else {
+        let copied = state.copy(alloc)?;
+        let Ok(_) = self.cells.insert(cell, copied) else {
             return Err(NoMemory);
         };
         Ok(true)
@@ -58,7 +45,7 @@ impl Facts {
     fn joined_for(&self, signal: Sig, function: FnId, installed: &Installed) -> Installed
         ensures { IsNewInstalled ((view self.now.lists).installed_at signal function) installed.now result }
     {
-        match self.installed.get(&(signal, function)) {
+        match self.installed_at(signal, function) {
             None => *installed,
             Some(held) => held.join(installed),
         }

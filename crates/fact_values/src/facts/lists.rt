@@ -2,6 +2,7 @@ ghost use Rattle.std.specs.Prelude.{◌≡◌, map, IfOk};
 ghost use Rattle.fact_values.specs.Facts.{targets_at};
 
 use super::Facts;
+use crate::keyed::{keys_of, map_keys};
 use crate::{Holder, Obj, Target};
 use base_core::{FnId, NoMemory, Sig};
 use call_ctx::{Cell, Role};
@@ -13,20 +14,14 @@ impl Facts {
     pub fn cell_list(&self, alloc: Global) -> Result<Vec<Cell>, NoMemory>
         ensures { IfOk result (λ cells. cells.items ≡ map (λ e. e.0) self.now.lists.cells) }
     {
-        match self.cells.keys().copied().collect(alloc) {
-            Ok(cells) => Ok(cells),
-            Err(_) => Err(NoMemory),
-        }
+        map_keys(&self.cells, alloc)
     }
 
     /// The holders that have a target, in order.
     pub fn holder_list(&self, alloc: Global) -> Result<Vec<Holder>, NoMemory>
         ensures { IfOk result (λ holders. holders.items ≡ map (λ e. e.0) self.now.lists.targets) }
     {
-        match self.targets.keys().copied().collect(alloc) {
-            Ok(holders) => Ok(holders),
-            Err(_) => Err(NoMemory),
-        }
+        map_keys(&self.targets, alloc)
     }
 
     /// The targets of the holder, in order.
@@ -43,39 +38,27 @@ impl Facts {
     pub fn installed_list(&self, alloc: Global) -> Result<Vec<(Sig, FnId)>, NoMemory>
         ensures { IfOk result (λ pairs. pairs.items ≡ map (λ e. e.0) self.now.lists.installed) }
     {
-        match self.installed.keys().copied().collect(alloc) {
-            Ok(pairs) => Ok(pairs),
-            Err(_) => Err(NoMemory),
-        }
+        map_keys(&self.installed, alloc)
     }
 
     /// The functions that threads start with, in order.
     pub fn thread_list(&self, alloc: Global) -> Result<Vec<FnId>, NoMemory>
         ensures { IfOk result (λ functions. functions.items ≡ self.now.lists.threads) }
     {
-        match self.threads.iter().copied().collect(alloc) {
-            Ok(functions) => Ok(functions),
-            Err(_) => Err(NoMemory),
-        }
+        keys_of(&self.threads, alloc)
     }
 
     /// The fork handlers, in order.
     pub fn fork_list(&self, alloc: Global) -> Result<Vec<(Role, FnId)>, NoMemory>
         ensures { IfOk result (λ handlers. handlers.items ≡ self.now.lists.forks) }
     {
-        match self.forks.iter().copied().collect(alloc) {
-            Ok(handlers) => Ok(handlers),
-            Err(_) => Err(NoMemory),
-        }
+        keys_of(&self.forks, alloc)
     }
 
     /// The stirred objects, in order.
     pub fn stirred_list(&self, alloc: Global) -> Result<Vec<Obj>, NoMemory>
         ensures { IfOk result (λ objects. objects.items ≡ self.now.lists.stirred) }
     {
-        match self.stirred.iter().copied().collect(alloc) {
-            Ok(objects) => Ok(objects),
-            Err(_) => Err(NoMemory),
-        }
+        keys_of(&self.stirred, alloc)
     }
 }

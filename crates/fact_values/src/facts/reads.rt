@@ -148,28 +148,10 @@ impl Facts {
     pub(super) fn holds_installed(&self, signal: Sig, function: FnId, installed: &Installed) -> bool
         ensures { IsTrue result ↔ Holds (view self.now.lists) (consequence (Part.Installed signal function) (Held.Installed installed.now)) }
     {
-        match self.installed.get(&(signal, function)) {
-            Some(held) => installed.below(held),
+        match self.installed_at(signal, function) {
+            Some(held) => installed.below(&held),
             None => false,
         }
-    }
-
-    fn holds_thread(&self, function: FnId) -> bool
-        ensures { IsTrue result ↔ Holds (view self.now.lists) (consequence (Part.Thread function) Held.Nothing) }
-    {
-        self.threads.contains(&function)
-    }
-
-    fn holds_fork(&self, role: Role, function: FnId) -> bool
-        ensures { IsTrue result ↔ Holds (view self.now.lists) (consequence (Part.Fork role function) Held.Nothing) }
-    {
-        self.forks.contains(&(role, function))
-    }
-
-    fn holds_stirred(&self, object: Obj) -> bool
-        ensures { IsTrue result ↔ Holds (view self.now.lists) (consequence (Part.Stirred object) Held.Nothing) }
-    {
-        self.stirred.contains(&object)
     }
 
     /// Whether the facts hold a consequence.
@@ -183,9 +165,9 @@ impl Facts {
             (Part::Installed(signal, function), Held::Installed(installed)) => {
                 self.holds_installed(*signal, *function, installed)
             }
-            (Part::Thread(function), Held::Nothing) => self.holds_thread(*function),
-            (Part::Fork(role, function), Held::Nothing) => self.holds_fork(*role, *function),
-            (Part::Stirred(object), Held::Nothing) => self.holds_stirred(*object),
+            (Part::Thread(function), Held::Nothing) => self.threads.contains(function),
+            (Part::Fork(role, function), Held::Nothing) => self.forks.contains(&(*role, *function)),
+            (Part::Stirred(object), Held::Nothing) => self.stirred.contains(object),
             _ => false,
         }
     }

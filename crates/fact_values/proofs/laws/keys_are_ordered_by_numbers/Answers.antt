@@ -1,4 +1,4 @@
-use Rattle.fact_values.proofs.ByNumbers.{obj_by_numbers, holder_by_numbers, target_by_numbers, part_by_numbers}
+use Rattle.fact_values.specs.ByNumbers.{obj_by_numbers, holder_by_numbers, target_by_numbers, part_by_numbers}
 use Rattle.fact_values.proofs.laws.keys_are_ordered_by_numbers.Goals as goal
 
 pub returns-clause-objects : goal.returns-clause-objects

@@ -1,6 +1,6 @@
 //! The rules of declared names by what their parts give (C11 6.7).
 
-ghost use Rattle.std.specs.Prelude.{◌≡◌, ◌<◌, ◌&&◌, true, false, length, map, option_map, if◌then◌else◌, IfOk, OnOk};
+ghost use Rattle.std.specs.Prelude.{◌≡◌, ◌<◌, ◌&&◌, length, map, option_map, if◌then◌else◌, IfOk, OnOk};
 ghost use Rattle.c_judgements.specs.Parts.{closed};
 ghost use Rattle.c_kinds.specs.View.{view};
 ghost use Rattle.c_tree.specs.DeclaredNames.{declarator_name};
@@ -14,6 +14,7 @@ ghost use Rattle.c_environment.specs.Types.{adjusted};
 ghost use Rattle.c_rules.specs.Conversions as conversions;
 ghost use Rattle.c_rules.specs.Judgement.{waits, is_settled};
 ghost use Rattle.c_rules.specs.Seen.{seen, seen_operand};
+ghost use Rattle.c_declared.specs.Constness.{of_cast, of_constant};
 ghost use Rattle.c_declared.specs.Ends.{member_judgement, parameter_judgement};
 ghost use Rattle.c_declared.specs.Faults.{no_faults};
 ghost use Rattle.c_declared.specs.Nodes as nodes;
@@ -21,6 +22,7 @@ ghost use Rattle.c_declared.specs.Operands as spec;
 ghost use Rattle.c_declared.specs.Seen.{shown};
 ghost use Rattle.c_declared.specs.Sizes as sizes;
 
+use crate::constness::Constness;
 use crate::declared::{Declared, Part};
 use crate::faults::{Faults, both, object_faults, parameter_faults};
 use crate::judgements::Judgements;
@@ -82,18 +84,20 @@ pub(crate) fn walked_cast(
     x: &Walked,
 ) -> Result<Boxed<Walked>, AllocError>
     ensures operand { IfOk result (λ w. seen_operand w.operand ≡ spec.valued (if to.now.settled then nodes.type_rule to.now.faults (conversions.cast (seen_type to.now.of).kind (seen_operand x.now.operand)) else waits)) }
-    ensures size { IfOk result (λ w. w.is_size ≡ false) }
+    ensures constness { IfOk result (λ w. w.constness ≡ of_cast x.now.constness) }
 {
     let own = type_rule(to.faults, cast(&to.of.kind, &x.operand)?);
-    with_form(alloc, once(to.settled, own), Form::plain(), false)
+    let constness = x.constness.cast();
+    with_form(alloc, once(to.settled, own), Form::plain(), constness)
 }
 
 pub(crate) fn walked_size_of_type(alloc: Global, of: &Declared) -> Result<Boxed<Walked>, AllocError>
     ensures operand { IfOk result (λ w. seen_operand w.operand ≡ spec.valued (if of.now.settled then nodes.type_rule of.now.faults conversions.size_of_type else waits)) }
-    ensures size { IfOk result (λ w. w.is_size ≡ true) }
+    ensures constness { IfOk result (λ w. w.constness ≡ of_constant) }
 {
     let own = type_rule(of.faults, size_of_type());
-    with_form(alloc, once(of.settled, own), Form::plain(), true)
+    let constness = Constness::constant();
+    with_form(alloc, once(of.settled, own), Form::plain(), constness)
 }
 
 /// What is said of an enumerator with this value (C11 6.7.2.2).

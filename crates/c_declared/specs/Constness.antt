@@ -2,14 +2,13 @@
 use Rattle.std.specs.Prelude.{Option, Bool, true, false, ◌&&◌}
 use Rattle.c_kinds.specs.Kind.{Kind}
 use Rattle.c_tree.specs.declared.tree.UnaryOp.{UnaryOp}
-use Rattle.c_tree.specs.declared.tree.UnaryOp.TheVariants as u
 use Rattle.c_tree.specs.Tree.{Expression}
 use Rattle.c_environment.specs.Entity.{Entity}
 use Rattle.c_environment.specs.Environment.{Environment}
 use Rattle.c_declared.specs.declared.constness.Constness.{Constness}
 use Rattle.c_declared.specs.Operands.{Rows}
 use Rattle.c_declared.specs.Sizes.{is_constant, is_arithmetic, may_be_size}
-use Rattle.c_declared.specs.StaticConstants.{is_array, is_constant_entity, is_lasting_entity, may_be_static, is_lasting_place}
+use Rattle.c_declared.specs.StaticConstants.{is_array, is_constant_entity, is_lasting_entity, unary_static, may_be_static, is_lasting_place}
 
 abbrev pub constness : Rows → Environment → Expression → Constness
 constness rows env x = record { size = may_be_size env x; fixed = may_be_static rows env x; lasting = is_lasting_place rows env x }
@@ -39,9 +38,7 @@ abbrev pub of_dot : Constness → Constness
 of_dot c = record { size = false; fixed = false; lasting = c.lasting }
 
 abbrev pub of_unary : UnaryOp → Constness → Constness
-of_unary u.Address c = record { size = false; fixed = c.lasting; lasting = false }
-of_unary u.Follow c = of_none
-of_unary o c = record { size = c.size; fixed = c.fixed; lasting = false }
+of_unary o c = record { size = is_arithmetic o && c.size; fixed = unary_static o c.fixed c.lasting; lasting = false }
 
 -- an element of what has this kind
 abbrev pub of_index : Constness → Option Kind → Constness → Constness

@@ -8,3 +8,4 @@ pub mod Constness
 pub mod Nodes
 pub mod Seen
 pub mod Ends
+pub mod Parts

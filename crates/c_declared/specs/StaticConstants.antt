@@ -1,6 +1,7 @@
 -- Constant expressions in the initialisers of objects with static storage duration (C11 6.7.9p4, 6.6p7 to p9), over a table with these rows.
 use Rattle.std.specs.Prelude.{Option, Some, None, Bool, true, false, ◌&&◌}
 use Rattle.c_kinds.specs.Kind.{Kind, array}
+use Rattle.c_tree.specs.declared.tree.UnaryOp.{UnaryOp}
 use Rattle.c_tree.specs.declared.tree.UnaryOp.TheVariants as u
 use Rattle.c_tree.specs.Tree.{Expression, choose, binary, cast, unary, size_of, size_of_type, index, dot, name, integer, character, text, paren}
 use Rattle.c_builtins.specs.declared.names.BuiltIn.TheVariants as b
@@ -40,6 +41,11 @@ is_lasting_place rows env (dot x m) = is_lasting_place rows env x
 is_lasting_place rows env (index x y) = (is_lasting_place rows env x && is_array (kind (operand rows env x).judged)) && may_be_size (behind_expression env x) y
 is_lasting_place rows env _ = false
 
+-- `&` makes a constant of the place of such an object, an arithmetic operator one of a constant
+abbrev pub unary_static : UnaryOp → Bool → Bool → Bool
+unary_static u.Address is_fixed is_lasting = is_lasting
+unary_static o is_fixed is_lasting = is_arithmetic o && is_fixed
+
 -- made of constants, addresses of such objects, names of such arrays and of functions, operators and casts
 abbrev pub may_be_static : Rows → Environment → Expression → Bool
 may_be_static rows env (name n) = is_constant_entity (entity env n)
@@ -49,8 +55,7 @@ may_be_static rows env (text ts) = true
 may_be_static rows env (size_of x) = true
 may_be_static rows env (size_of_type t) = true
 may_be_static rows env (paren x) = may_be_static rows env x
-may_be_static rows env (unary u.Address x) = is_lasting_place rows env x
-may_be_static rows env (unary o x) = is_arithmetic o && may_be_static rows env x
+may_be_static rows env (unary o x) = unary_static o (may_be_static rows env x) (is_lasting_place rows env x)
 may_be_static rows env (binary o x y) = may_be_static rows env x && may_be_static rows (behind_expression env x) y
 may_be_static rows env (choose w x y) =
     may_be_static rows env w && may_be_static rows (behind_expression env w) x && may_be_static rows (behind_expression (behind_expression env w) x) y

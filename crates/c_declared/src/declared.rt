@@ -230,8 +230,8 @@ pub(crate) fn bare_parameter(
     bare: Boxed<Declared>,
 ) -> Result<Boxed<Declared>, AllocError>
     ensures settled { IfOk result (λ d. d.settled ≡ (part.settled && bare.settled)) }
-    ensures faults { IfOk result (λ d. d.faults ≡ spec.faults_of_both part.faults (spec.faults_of_both (parameter_type_faults (seen_environment env.now) unknown (seen_type bare.of)) bare.faults)) }
-    ensures of { IfOk result (λ d. seen_type d.of ≡ seen_type bare.of) }
+    ensures faults { IfOk result (λ d. d.faults ≡ spec.faults_of_both part.faults (spec.faults_of_both (parameter_type_faults (seen_environment env.now) unknown (types.adjusted (seen_type bare.of))) bare.faults)) }
+    ensures of { IfOk result (λ d. seen_type d.of ≡ types.adjusted (seen_type bare.of)) }
 {
     let Declared {
         settled,
@@ -239,6 +239,7 @@ pub(crate) fn bare_parameter(
         faults,
         of,
     } = bare.into_inner();
+    let of = of.adjusted()?;
     let own = parameter_faults(env, unknown, &of).and(faults);
     Ok(Boxed::new(
         alloc,

@@ -53,6 +53,13 @@ with_member ms n k = record { names = declare n (length ms.kinds) ms.names; kind
 abbrev pub member : Members → Name → Option Kind
 member ms n = option_and_then (λ i. slice_get ms.kinds i) (look_up ms.names n)
 
+-- the place of a member among them, and the kind of the one at a place
+abbrev pub member_place : Members → Name → Option ℕ
+member_place ms n = look_up ms.names n
+
+abbrev pub member_at : Members → ℕ → Option Kind
+member_at ms i = slice_get ms.kinds i
+
 -- A structure: its members; whether they are known, so that it is complete (6.7.2.1p8); whether its tag is declared, and not mentioned
 -- alone.
 pub record Structure : Type 0 where

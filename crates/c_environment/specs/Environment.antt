@@ -38,6 +38,14 @@ number env n = or_else (look_up env.names n) (look_up env.implementation n)
 abbrev pub entity : Environment → Name → Option Entity
 entity env n = option_and_then (λ i. slice_get env.entities i) (number env n)
 
+-- what the innermost block has declared the name as
+abbrev pub entity_here : Environment → Name → Option Entity
+entity_here env n = option_and_then (λ i. slice_get env.entities i) (declared_here env.names n)
+
+-- the object or function with linkage of this name (6.2.2p2)
+abbrev pub linked_entity : Environment → Name → Option Entity
+linked_entity env n = option_and_then (λ i. slice_get env.entities i) (look_up env.linked n)
+
 -- the innermost block has declared the name
 abbrev pub is_declared_here : Environment → Name → Bool
 is_declared_here env n = is_some (declared_here env.names n)

@@ -1172,7 +1172,7 @@ class Misfits:
         twice = self.clash(n, linkage, t["fn"]) or init is not None and linkage and n in self.initialised
         differs = linkage and self.differs(n, t["kind"])
         self.declare(storage, n, t)
-        if init is not None and file:
+        if init is not None and linkage:
             self.initialised.add(n)
         not_static = init is not None and (file or storage in ("static", "extern")) and not self.is_static(init)
         m, ok2, _ = self.initializer(t["kind"], init) if init else (None, True, None)

@@ -13,7 +13,7 @@ use Rattle.c_environment.specs.Entity.{DeclaredType, Entity, variable}
 use Rattle.c_environment.specs.Environment.{Environment, is_reserved, is_initialised, at_file_scope, tag_here}
 use Rattle.c_environment.specs.Types.{specified}
 use Rattle.c_environment.specs.Behind.{behind_specifiers, behind_declarator, declared}
-use Rattle.c_environment.specs.Scopes.{with_name, behind_named}
+use Rattle.c_environment.specs.Scopes.{is_extern, is_typedef, has_linkage, with_name, behind_named}
 use Rattle.c_rules.specs.declared.misfit.MisfitKind.{MisfitKind}
 use Rattle.c_rules.specs.declared.misfit.MisfitKind.TheVariants.{UnknownName, DeclaredTwice, NotConstant, LeftOut, KindMismatch}
 use Rattle.c_rules.specs.Judgement.{Judgement, fits, silent, unless}
@@ -48,22 +48,6 @@ clashes_here env has_linkage is_function n = clashes_with has_linkage is_functio
 -- a name of the file's scope is none of the implementation's
 abbrev pub is_taken : Environment → Bool → Bool → Name → Bool
 is_taken env has_linkage is_function n = (at_file_scope env && is_reserved env n) || clashes_here env has_linkage is_function n
-
--- functions, names of the file's scope, and those declared with `extern` (6.2.2p4, p5)
-abbrev pub is_extern : Storage → Bool
-is_extern st.Extern = true
-is_extern _ = false
-
-abbrev pub is_typedef : Storage → Bool
-is_typedef st.Typedef = true
-is_typedef _ = false
-
-abbrev pub is_static : Storage → Bool
-is_static st.Static = true
-is_static _ = false
-
-abbrev pub has_linkage : Environment → Storage → Bool → Bool
-has_linkage env storage is_function = not (is_typedef storage) && (is_function || at_file_scope env || is_extern storage)
 
 -- the object or function of this name has had another type
 abbrev pub kind_of : Entity → Option Kind
@@ -103,6 +87,10 @@ named_faults env storage ws t d =
     if is_function_form d then faults_declarator env t d else faults_of_both (object_faults env (behind_declarator env d) ws (is_own d) (declared env t d)) (faults_declarator env t d)
 
 -- it is initialised as an object of static storage duration
+abbrev pub is_static : Storage → Bool
+is_static st.Static = true
+is_static _ = false
+
 abbrev pub is_lasting : Environment → Storage → Bool
 is_lasting env storage = at_file_scope env || is_static storage || is_extern storage
 

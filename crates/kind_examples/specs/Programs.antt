@@ -103,6 +103,10 @@ main ss = defines int (codes "main") no_parameters true ss
 abbrev ends : List StatementTree → ItemTree
 ends ss = main (ss ++ returns zero ∷ [])
 
+-- void f(void) { storage int x = 1; } int x = 2; int main(void) { return 0; }
+abbrev around_two : Storage → List ItemTree
+around_two s = defines void (codes "f") no_parameters true (declaration (declares s int (set_to (codes "x") one ∷ [])) ∷ []) ∷ outer int (set_to (codes "x") two ∷ []) ∷ ends [] ∷ []
+
 -- ---- programs and main
 
 -- int main(void) { return 0; }
@@ -164,6 +168,16 @@ defined_nowhere = main (elsewhere ∷ returns x ∷ []) ∷ []
 -- its definition may follow
 abbrev pub defined_behind : List ItemTree
 defined_behind = main (elsewhere ∷ returns x ∷ []) ∷ outer int (int_named (codes "x")) ∷ []
+
+-- void f(void) { extern int x = 1; } int x = 2; int main(void) { return 0; }
+-- an object with linkage is one, in a block and outside, and has one initialiser
+abbrev pub initialised_twice : List ItemTree
+initialised_twice = around_two storage.Extern
+
+-- void f(void) { static int x = 1; } int x = 2; int main(void) { return 0; }
+-- that of a block without extern is another
+abbrev pub initialised_apart : List ItemTree
+initialised_apart = around_two storage.Static
 
 -- int main(void) { return sizeof(enum { A }) + A; }
 -- a type in an expression declares its enumerators

@@ -11,6 +11,7 @@ pub fn programs_fit()
     ensures own_initializer { Fits programs.own_initializer }
     ensures parameter_hidden { Fits programs.parameter_hidden }
     ensures defined_behind { Fits programs.defined_behind }
+    ensures initialised_apart { Fits programs.initialised_apart }
     ensures enumerator_in_sizeof { Fits programs.enumerator_in_sizeof }
     ensures library_hidden { Fits programs.library_hidden }
     ensures library_called { Fits programs.library_called }
@@ -31,6 +32,7 @@ pub fn programs_break()
     ensures first_of_two { Breaks 5 UnknownName programs.first_of_two }
     ensures parameter_declared_again { Breaks 5 DeclaredTwice programs.parameter_declared_again }
     ensures defined_nowhere { Breaks 6 UnknownName programs.defined_nowhere }
+    ensures initialised_twice { Breaks 7 DeclaredTwice programs.initialised_twice }
     ensures library_as_value { Breaks 8 LibraryAsValue programs.library_as_value }
     ensures too_few_for_the_library { Breaks 4 WrongCount programs.too_few_for_the_library }
     ensures no_handler { Breaks 6 KindMismatch programs.no_handler }

@@ -30,6 +30,10 @@ pub returns-clause-defined_nowhere : goal.returns-clause-defined_nowhere
 unfolding profile_rows
 returns-clause-defined_nowhere c = refl
 
+pub returns-clause-initialised_twice : goal.returns-clause-initialised_twice
+unfolding profile_rows
+returns-clause-initialised_twice c = refl
+
 pub returns-clause-library_as_value : goal.returns-clause-library_as_value
 unfolding profile_rows
 returns-clause-library_as_value c = refl

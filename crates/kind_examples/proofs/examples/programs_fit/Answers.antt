@@ -22,6 +22,10 @@ pub returns-clause-defined_behind : goal.returns-clause-defined_behind
 unfolding profile_rows
 returns-clause-defined_behind c = refl
 
+pub returns-clause-initialised_apart : goal.returns-clause-initialised_apart
+unfolding profile_rows
+returns-clause-initialised_apart c = refl
+
 pub returns-clause-enumerator_in_sizeof : goal.returns-clause-enumerator_in_sizeof
 unfolding profile_rows
 returns-clause-enumerator_in_sizeof c = refl

@@ -647,7 +647,7 @@ class Misfits:
         for n in ROWS:
             self.implementation[n] = ("library", n)
         for tag, members in STRUCTURES:
-            self.structures.append(dict(members=dict(members), complete=True, declared=True))
+            self.structures.append(dict(members=dict(members), begun=True, complete=True, declared=True))
             if tag:
                 self.tags[0][tag] = ("struct", len(self.structures) - 1)
         self.functions = {i[5] for i in items if i[0] == "function"}
@@ -780,7 +780,7 @@ class Misfits:
         return t[1] if t and t[0] == "struct" else len(self.structures)
 
     def new_structure(self, n, declared):
-        self.structures.append(dict(members={}, complete=False, declared=declared))
+        self.structures.append(dict(members={}, begun=False, complete=False, declared=declared))
         if n is not None:
             self.tags[-1][n] = ("struct", len(self.structures) - 1)
         return len(self.structures) - 1
@@ -807,9 +807,10 @@ class Misfits:
                     pass
             elif s[0] == "struct_of":
                 t = self.tags[-1].get(s[1]) if s[1] is not None else None
-                if t and (t[0] == "enum" or self.structures[t[1]]["complete"]):
+                if t and (t[0] == "enum" or self.structures[t[1]]["begun"]):
                     broken.add("repeated")
                 k = t[1] if t and t[0] == "struct" else self.new_structure(s[1], True)
+                self.structures[k]["begun"] = True
                 whole = plain(("struct", k))
                 members = {}
                 for inner, names in s[2]:
@@ -818,7 +819,7 @@ class Misfits:
                     settled &= ok
                     for d in names:
                         settled &= self.member(members, base, unk, d)
-                self.structures[k] = dict(members=members, complete=True, declared=True)
+                self.structures[k] = dict(members=members, begun=True, complete=True, declared=True)
             elif s[0] == "enum_tag":
                 t = self.tag(s[1])
                 if t and t[0] == "struct":

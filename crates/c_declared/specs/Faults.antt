@@ -22,15 +22,15 @@ repeated_if holds = record no_faults { repeated = holds }
 
 -- ---- tags (6.7.2.3)
 
--- braces: this block has declared the tag already with its members (p1), or as an enumeration (p3)
-abbrev pub is_completed : Option Structure → Bool
-is_completed None = false
-is_completed (Some s) = s.complete
+-- braces: members of the tag have begun in this block already (p1), though they may not have ended, or it is an enumeration's (p3)
+abbrev pub has_begun : Option Structure → Bool
+has_begun None = false
+has_begun (Some s) = s.begun
 
 abbrev pub structure_clashes : Environment → Option (Option ℕ) → Bool
 structure_clashes env None = false
 structure_clashes env (Some None) = true
-structure_clashes env (Some (Some k)) = is_completed (structure_at env k)
+structure_clashes env (Some (Some k)) = has_begun (structure_at env k)
 
 abbrev pub names_enumeration : Option (Option ℕ) → Bool
 names_enumeration (Some None) = true
@@ -64,6 +64,10 @@ tag_unknown env (specifiers (enum_tag n) ws) = is_none (tag env n)
 tag_unknown env (specifiers w ws) = tag_unknown env ws
 
 -- ---- objects (6.7p7)
+
+abbrev pub is_completed : Option Structure → Bool
+is_completed None = false
+is_completed (Some s) = s.complete
 
 abbrev pub is_complete : Environment → Kind → Bool
 is_complete env (structure k) = is_completed (structure_at env k)

@@ -72,11 +72,11 @@ impl Faults {
     }
 }
 
-fn is_completed(structure: Option<&Structure>) -> bool
-    ensures { result ≡ spec.is_completed (option_map (λ s. seen_structure s.now) structure.entry) }
+fn has_begun(structure: Option<&Structure>) -> bool
+    ensures { result ≡ spec.has_begun (option_map (λ s. seen_structure s.now) structure.entry) }
 {
     match structure {
-        Some(structure) => structure.complete,
+        Some(structure) => structure.begun,
         None => false,
     }
 }
@@ -87,7 +87,7 @@ fn structure_clashes(env: &Environment, known: Option<Option<u32>>) -> bool
     match known {
         None => false,
         Some(None) => true,
-        Some(Some(number)) => is_completed(env.structure(number)),
+        Some(Some(number)) => has_begun(env.structure(number)),
     }
 }
 
@@ -181,6 +181,15 @@ pub fn tag_unknown(env: &Environment, specs: &[SpecWord]) -> bool
         }
     }
     false
+}
+
+fn is_completed(structure: Option<&Structure>) -> bool
+    ensures { result ≡ spec.is_completed (option_map (λ s. seen_structure s.now) structure.entry) }
+{
+    match structure {
+        Some(structure) => structure.complete,
+        None => false,
+    }
 }
 
 fn is_complete(env: &Environment, kind: &CType) -> bool

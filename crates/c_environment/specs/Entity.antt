@@ -60,9 +60,10 @@ member_place ms n = look_up ms.names n
 abbrev pub member_at : Members → ℕ → Option Kind
 member_at ms i = slice_get ms.kinds i
 
--- A structure: its members; whether they are known, so that it is complete (6.7.2.1p8); whether its tag is declared, and not mentioned
--- alone.
+-- A structure: its members; whether they have begun (6.7.2.3p1), and whether they are known, so that it is complete (6.7.2.1p8); whether its
+-- tag is declared, and not mentioned alone.
 pub record Structure : Type 0 where
   pub members : Members
+  pub begun : Bool
   pub complete : Bool
   pub declared : Bool

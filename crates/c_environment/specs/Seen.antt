@@ -30,7 +30,7 @@ abbrev pub seen_members : Members → e.Members
 seen_members ms = record { names = ms.names; kinds = map view ms.kinds.items }
 
 abbrev pub seen_structure : Structure → e.Structure
-seen_structure s = record { members = seen_members s.members; complete = s.complete; declared = s.declared }
+seen_structure s = record { members = seen_members s.members; begun = s.begun; complete = s.complete; declared = s.declared }
 
 abbrev pub seen_environment : Environment → plain.Environment
 seen_environment x = record {

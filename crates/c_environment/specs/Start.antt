@@ -57,7 +57,7 @@ members_of ms [] = ms
 members_of ms (p ∷ ps) = members_of (with_member ms p.0 (built_in_kind p.1)) ps
 
 abbrev pub built_in_structure : List (Name × BuiltInType) → Structure
-built_in_structure ps = record { members = members_of no_members ps; complete = true; declared = true }
+built_in_structure ps = record { members = members_of no_members ps; begun = true; complete = true; declared = true }
 
 abbrev pub structure_tags : ℕ → List Name → List (Option ℕ)
 structure_tags i [] = []

@@ -46,6 +46,13 @@ struct_stat = specifiers (struct_tag (codes "stat")) no_specifiers
 abbrev one_member : Option Name → Specifiers
 one_member tag = specifiers (struct_of tag (member int (declarators (plain [] (codes "a")) no_declarators) no_members)) no_specifiers
 
+abbrev struct_s : Specifiers
+struct_s = specifiers (struct_tag (codes "s")) no_specifiers
+
+-- { int a; another }
+abbrev two_members : Name → Specifiers → DeclaratorTree → Specifiers
+two_members tag ws d = specifiers (struct_of (Some tag) (member int (declarators (plain [] (codes "a")) no_declarators) (member ws (declarators d no_declarators) no_members))) no_specifiers
+
 -- a name with one star
 abbrev starred : Name → DeclaratorTree
 starred n = plain ([] ∷ []) n
@@ -296,4 +303,14 @@ own_structure = outer (one_member (Some (codes "stat"))) [] ∷ ends (local stru
 -- void f(struct s { int a; } *p); int main(void) { struct s x; return 0; }
 -- a tag that a prototype's parameter declares ends with the prototype
 abbrev pub tag_of_a_prototype : List ItemTree
-tag_of_a_prototype = outer void (unset (function [] (codes "f") (parameters (one_member (Some (codes "s"))) (named_form (starred (codes "p"))) no_parameters) false) ∷ []) ∷ ends (local (specifiers (struct_tag (codes "s")) no_specifiers) (int_named (codes "x")) ∷ []) ∷ []
+tag_of_a_prototype = outer void (unset (function [] (codes "f") (parameters (one_member (Some (codes "s"))) (named_form (starred (codes "p"))) no_parameters) false) ∷ []) ∷ ends (local struct_s (int_named (codes "x")) ∷ []) ∷ []
+
+-- struct s; struct s { int a; struct s *p; }; int main(void) { return 0; }
+-- a structure's members begin behind its tag, and may point to it
+abbrev pub own_pointer : List ItemTree
+own_pointer = outer struct_s [] ∷ outer (two_members (codes "s") struct_s (starred (codes "p"))) [] ∷ ends [] ∷ []
+
+-- struct s { int a; struct s { int a; } b; }; int main(void) { return 0; }
+-- but they begin once, though they haven't ended
+abbrev pub begun_twice : List ItemTree
+begun_twice = outer (two_members (codes "s") (one_member (Some (codes "s"))) (plain [] (codes "b"))) [] ∷ ends [] ∷ []

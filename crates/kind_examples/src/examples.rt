@@ -21,6 +21,7 @@ pub fn programs_fit()
     ensures array_parameter { Fits programs.array_parameter }
     ensures goto_forward { Fits programs.goto_forward }
     ensures own_structure { Fits programs.own_structure }
+    ensures own_pointer { Fits programs.own_pointer }
 {}
 
 /// In each of these programs this node is the first that breaks a rule, and this is the rule.
@@ -48,4 +49,5 @@ pub fn programs_break()
     ensures goto_without_label { Breaks 3 UnknownName programs.goto_without_label }
     ensures built_in_structure { Breaks 7 UnknownName programs.built_in_structure }
     ensures tag_of_a_prototype { Breaks 8 UnknownName programs.tag_of_a_prototype }
+    ensures begun_twice { Breaks 1 DeclaredTwice programs.begun_twice }
 {}

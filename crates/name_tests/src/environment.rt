@@ -109,6 +109,27 @@ fn is_complete(env: &Environment, tag: Option<Option<u32>>) -> bool {
     }
 }
 
+/// Whether members of the structure have begun.
+fn has_begun(env: &Environment, number: u32) -> bool {
+    match env.structure(number) {
+        Some(structure) => structure.begun && !structure.complete,
+        None => false,
+    }
+}
+
+/// Whether members begin behind a tag that was declared alone, and not before.
+fn members_begin<'a>(env: &mut Environment<'a>, tag: &'a Option<Lexeme>) -> Answer {
+    env.entered()?;
+    env.with_tag_alone(b"s")?;
+    let number = env.defined_structure(tag)?;
+    let before = has_begun(env, number);
+    env.opened(tag)?;
+    let same = env.defined_structure(tag)? == number;
+    let behind = has_begun(env, number);
+    env.left();
+    Ok(!before && same && behind)
+}
+
 /// Whether a tag with braces in a block is another structure than that of the same tag around, and a tag alone the same.
 fn tags_stand_apart<'a>(
     alloc: Global,
@@ -248,6 +269,7 @@ fn follows<'a>(alloc: Global, env: &mut Environment<'a>, tag: &'a Option<Lexeme>
         is_start(env)
             && hides(env)?
             && tags_stand_apart(alloc, env, tag)?
+            && members_begin(env, tag)?
             && is_linked(env)?
             && has_values(env)?
             && qualifies_its_place(alloc, env)?

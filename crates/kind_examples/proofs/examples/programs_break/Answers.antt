@@ -93,3 +93,7 @@ returns-clause-built_in_structure c = refl
 pub returns-clause-tag_of_a_prototype : goal.returns-clause-tag_of_a_prototype
 unfolding profile_rows
 returns-clause-tag_of_a_prototype c = refl
+
+pub returns-clause-begun_twice : goal.returns-clause-begun_twice
+unfolding profile_rows
+returns-clause-begun_twice c = refl

@@ -61,3 +61,7 @@ returns-clause-goto_forward c = refl
 pub returns-clause-own_structure : goal.returns-clause-own_structure
 unfolding profile_rows
 returns-clause-own_structure c = refl
+
+pub returns-clause-own_pointer : goal.returns-clause-own_pointer
+unfolding profile_rows
+returns-clause-own_pointer c = refl

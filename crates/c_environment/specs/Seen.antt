@@ -12,7 +12,7 @@ use Rattle.c_environment.specs.declared.members.Structure.{Structure}
 use Rattle.c_environment.specs.declared.environment.Environment.{Environment}
 
 abbrev pub seen_type : DeclaredType → e.DeclaredType
-seen_type t = record { kind = view t.kind; is_function = t.is_function; constant = t.constant; volatile = t.volatile; atomic = t.atomic }
+seen_type t = record { kind = view t.kind; is_function = t.is_function; is_open = t.is_open; constant = t.constant; volatile = t.volatile; atomic = t.atomic }
 
 abbrev pub seen_variable : Variable → e.Variable
 seen_variable x = record { number = x.number; of = seen_type x.of; owner = x.owner; lasting = x.lasting; linked = x.linked }

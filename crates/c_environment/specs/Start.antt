@@ -34,7 +34,7 @@ built_in_kind t.Handler = handler
 built_in_kind t.Action = action
 
 abbrev pub built_in_type : Name × BuiltInType → Entity
-built_in_type p = e.type_name (record { kind = built_in_kind p.1; is_function = false; constant = false; volatile = false; atomic = bytes_eq p.0 (codes "sig_atomic_t") })
+built_in_type p = e.type_name (record { kind = built_in_kind p.1; is_function = false; is_open = false; constant = false; volatile = false; atomic = bytes_eq p.0 (codes "sig_atomic_t") })
 
 -- names for the things from this number on, one after the other
 abbrev pub numbered : ℕ → List Name → Scope → Scope

@@ -6,7 +6,7 @@ use Rattle.c_kinds.specs.Matching.{agrees}
 use Rattle.c_scopes.specs.Scope.{look_up, declared_here}
 use Rattle.c_tree.specs.declared.tree.Storage.{Storage}
 use Rattle.c_tree.specs.declared.tree.Storage.TheVariants as st
-use Rattle.c_tree.specs.Tree.{Name, Specifiers, no_specifiers, specifiers, struct_tag, Sizes, DeclaratorTree, function, Initializer, single, listed, NamedTree, DeclarationTree}
+use Rattle.c_tree.specs.Tree.{Name, Specifiers, no_specifiers, specifiers, struct_tag, DeclaratorTree, function, Initializer, single, listed, NamedTree, DeclarationTree}
 use Rattle.c_tree.specs.DeclaredNames.{declarator_name}
 use Rattle.c_environment.specs.Entity as e
 use Rattle.c_environment.specs.Entity.{DeclaredType, Entity, variable}
@@ -22,7 +22,7 @@ use Rattle.c_declared.specs.Said.{Said, nothing, both, node, formless, once}
 use Rattle.c_declared.specs.Operands.{Rows}
 use Rattle.c_declared.specs.declared.faults.Faults.{Faults}
 use Rattle.c_declared.specs.Faults.{faults_of_both, faults_specifiers, faults_declarator, object_faults, is_own, names_enumeration, repeated_if}
-use Rattle.c_declared.specs.Sizes.{are_sizes, sizes_of, are_given, are_given_behind_first}
+use Rattle.c_declared.specs.Sizes.{are_sizes, sizes_of}
 use Rattle.c_declared.specs.Nodes.{operand, said_specifiers, said_declarator, broken}
 use Rattle.c_judged.specs.Initializers.{is_static_initializer, said_initializer}
 
@@ -64,12 +64,10 @@ differs env n k = differs_from k (option_and_then kind_of (entity_at env (look_u
 
 -- ---- a declared name
 
--- An object's array has a size, unless it is initialised, which gives it one (6.7.9p22), or declared with `extern`.
+-- An object's array has a size, unless it is initialised, which gives it one (6.7.9p22), or declared with `extern`; a type's name may be one of
+-- an array without a size.
 abbrev pub may_be_open : Storage → Option Initializer → Bool
-may_be_open storage i = is_some i || is_extern storage
-
-abbrev pub are_complete : Bool → Sizes → Bool
-are_complete may_open xs = if may_open then are_given_behind_first xs else are_given xs
+may_be_open storage i = is_some i || is_extern storage || is_typedef storage
 
 abbrev pub mismatched : Rows → Environment → Kind → Option Initializer → Option MisfitKind
 mismatched rows env k None = None
@@ -116,8 +114,7 @@ named_rule rows env inner storage ws t n =
     (unless (broken (not (are_sizes env (sizes_of n.declarator)) || is_not_constant inner storage n.init) NotConstant)
     (unless (mismatched rows inner (declared env t n.declarator).kind n.init)
     (unless (broken
-    ((named_faults env storage ws t n.declarator).incomplete
-    || not (is_typedef storage || are_complete (may_be_open storage n.init) (sizes_of n.declarator)))
+    ((named_faults env storage ws t n.declarator).incomplete || ((declared env t n.declarator).is_open && not (may_be_open storage n.init)))
     KindMismatch)
     (fits (declared env t n.declarator).kind))))))))
 

@@ -4,7 +4,7 @@ use Rattle.c_tree.specs.declared.tree.AssignOp.TheVariants as assign_op
 use Rattle.c_tree.specs.declared.tree.BinaryOp.TheVariants as op
 use Rattle.c_tree.specs.declared.tree.Storage.{Storage}
 use Rattle.c_tree.specs.declared.tree.Storage.TheVariants as storage
-use Rattle.c_tree.specs.Tree.{Name, Expression, assign, binary, size_of_type, call, dot, name, integer, Expressions, no_expressions, expressions, no_sizes, size, typed, Specifiers, no_specifiers, specifiers, const_word, void_word, int_word, type_name, struct_tag, struct_of, enum_of, no_members, member, no_declarators, declarators, no_enumerators, enumerator, enumerator_with, DeclaratorTree, plain, array, function, Parameters, no_parameters, parameters, named_form, bare_stars, single, listed, no_initializers, initializers, NamedTree, DeclarationTree, StatementTree, block, declaration, expression_statement, switch_statement, case_label, named_label, return_statement, goto_statement, ItemTree, function_item, declaration_item}
+use Rattle.c_tree.specs.Tree.{Name, Expression, assign, binary, size_of_type, call, dot, name, integer, Expressions, no_expressions, expressions, no_sizes, open_size, size, typed, Specifiers, no_specifiers, specifiers, const_word, void_word, int_word, type_name, struct_tag, struct_of, enum_of, no_members, member, no_declarators, declarators, no_enumerators, enumerator, enumerator_with, DeclaratorTree, plain, array, function, Parameters, no_parameters, parameters, named_form, bare_stars, single, listed, no_initializers, initializers, NamedTree, DeclarationTree, StatementTree, block, declaration, expression_statement, switch_statement, case_label, named_label, return_statement, goto_statement, ItemTree, function_item, declaration_item}
 use Rattle.c_tree.specs.StatementView.{statements_of}
 
 -- ---- words
@@ -113,6 +113,17 @@ ends ss = main (ss ++ returns zero ∷ [])
 -- void f(void) { storage int x = 1; } int x = 2; int main(void) { return 0; }
 abbrev around_two : Storage → List ItemTree
 around_two s = defines void (codes "f") no_parameters true (declaration (declares s int (set_to (codes "x") one ∷ [])) ∷ []) ∷ outer int (set_to (codes "x") two ∷ []) ∷ ends [] ∷ []
+
+-- typedef int A[]; items
+abbrev behind_open : List ItemTree → List ItemTree
+behind_open is = declaration_item (declares storage.Typedef int (unset (array [] (codes "A") (open_size no_sizes)) ∷ [])) ∷ is
+
+abbrev open_type : Specifiers
+open_type = specifiers (type_name (codes "A")) no_specifiers
+
+-- typedef int A[]; A names; int main(void) { return 0; }
+abbrev open_a : List NamedTree → List ItemTree
+open_a ns = behind_open (outer open_type ns ∷ ends [] ∷ [])
 
 -- ---- programs and main
 
@@ -261,6 +272,40 @@ array_assigned = ends (local int (unset (array [] (codes "a") (size two no_sizes
 -- but a parameter of an array type is a pointer, though a typedef names the type
 abbrev pub array_parameter : List ItemTree
 array_parameter = declaration_item (declares storage.Typedef int (unset (array [] (codes "T") (size two no_sizes)) ∷ [])) ∷ defines void (codes "f") (one_parameter (specifiers (type_name (codes "T")) no_specifiers) (codes "a")) false (stores a zero ∷ []) ∷ ends [] ∷ []
+
+-- typedef int A[]; A a; int main(void) { return 0; }
+-- an array without a size is incomplete, though a typedef names the type
+abbrev pub array_without_size : List ItemTree
+array_without_size = open_a (int_named (codes "a"))
+
+-- typedef int A[]; A a[2]; int main(void) { return 0; }
+-- so it is no element of an array
+abbrev pub elements_without_size : List ItemTree
+elements_without_size = open_a (unset (array [] (codes "a") (size two no_sizes)) ∷ [])
+
+-- typedef int A[]; int main(void) { A a; return 0; }
+abbrev pub local_without_size : List ItemTree
+local_without_size = behind_open (ends (local open_type (int_named (codes "a")) ∷ []) ∷ [])
+
+-- typedef int A[]; struct s { int a; A b; }; int main(void) { return 0; }
+abbrev pub member_without_size : List ItemTree
+member_without_size = behind_open (outer (two_members (codes "s") open_type (plain [] (codes "b"))) [] ∷ ends [] ∷ [])
+
+-- typedef int A[]; extern A a; void f(A a) { } int main(void) { return 0; }
+-- its size may stand elsewhere, and a parameter is a pointer
+abbrev pub array_elsewhere : List ItemTree
+array_elsewhere =
+    behind_open (declaration_item (declares storage.Extern open_type (int_named (codes "a"))) ∷ defines void (codes "f") (one_parameter open_type (codes "a")) false [] ∷ ends [] ∷ [])
+
+-- typedef int A[]; A a = { 1 }; int main(void) { return 0; }
+-- an initialiser gives it a size
+abbrev pub array_initialised : List ItemTree
+array_initialised = open_a (record { declarator = plain [] (codes "a"); init = Some (listed (initializers None (single one) no_initializers) false) } ∷ [])
+
+-- typedef int A[]; A *a; int main(void) { return 0; }
+-- and there are pointers to it
+abbrev pub array_pointed_to : List ItemTree
+array_pointed_to = open_a (unset (starred (codes "a")) ∷ [])
 
 -- ---- constants
 

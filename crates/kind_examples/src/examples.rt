@@ -19,6 +19,9 @@ pub fn programs_fit()
     ensures zero_action { Fits programs.zero_action }
     ensures difference_of_pointers { Fits programs.difference_of_pointers }
     ensures array_parameter { Fits programs.array_parameter }
+    ensures array_elsewhere { Fits programs.array_elsewhere }
+    ensures array_initialised { Fits programs.array_initialised }
+    ensures array_pointed_to { Fits programs.array_pointed_to }
     ensures goto_forward { Fits programs.goto_forward }
     ensures own_structure { Fits programs.own_structure }
     ensures own_pointer { Fits programs.own_pointer }
@@ -43,6 +46,10 @@ pub fn programs_break()
     ensures sum_of_pointers { Breaks 7 KindMismatch programs.sum_of_pointers }
     ensures constant_assigned { Breaks 7 NotAssignable programs.constant_assigned }
     ensures array_assigned { Breaks 7 NotAssignable programs.array_assigned }
+    ensures array_without_size { Breaks 4 KindMismatch programs.array_without_size }
+    ensures elements_without_size { Breaks 4 KindMismatch programs.elements_without_size }
+    ensures local_without_size { Breaks 6 KindMismatch programs.local_without_size }
+    ensures member_without_size { Breaks 5 KindMismatch programs.member_without_size }
     ensures enumerator_past_int { Breaks 4 NotConstant programs.enumerator_past_int }
     ensures static_initializer { Breaks 4 NotConstant programs.static_initializer }
     ensures case_twice { Breaks 8 DeclaredTwice programs.case_twice }

@@ -70,6 +70,22 @@ pub returns-clause-array_assigned : goal.returns-clause-array_assigned
 unfolding profile_rows
 returns-clause-array_assigned c = refl
 
+pub returns-clause-array_without_size : goal.returns-clause-array_without_size
+unfolding profile_rows
+returns-clause-array_without_size c = refl
+
+pub returns-clause-elements_without_size : goal.returns-clause-elements_without_size
+unfolding profile_rows
+returns-clause-elements_without_size c = refl
+
+pub returns-clause-local_without_size : goal.returns-clause-local_without_size
+unfolding profile_rows
+returns-clause-local_without_size c = refl
+
+pub returns-clause-member_without_size : goal.returns-clause-member_without_size
+unfolding profile_rows
+returns-clause-member_without_size c = refl
+
 pub returns-clause-enumerator_past_int : goal.returns-clause-enumerator_past_int
 unfolding profile_rows
 returns-clause-enumerator_past_int c = refl

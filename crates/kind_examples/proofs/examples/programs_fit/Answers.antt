@@ -54,6 +54,18 @@ pub returns-clause-array_parameter : goal.returns-clause-array_parameter
 unfolding profile_rows
 returns-clause-array_parameter c = refl
 
+pub returns-clause-array_elsewhere : goal.returns-clause-array_elsewhere
+unfolding profile_rows
+returns-clause-array_elsewhere c = refl
+
+pub returns-clause-array_initialised : goal.returns-clause-array_initialised
+unfolding profile_rows
+returns-clause-array_initialised c = refl
+
+pub returns-clause-array_pointed_to : goal.returns-clause-array_pointed_to
+unfolding profile_rows
+returns-clause-array_pointed_to c = refl
+
 pub returns-clause-goto_forward : goal.returns-clause-goto_forward
 unfolding profile_rows
 returns-clause-goto_forward c = refl

@@ -14,4 +14,4 @@ pub use declared::{Declared, ParametersPart, Part, SizesPart};
 pub use faults::{Faults, is_own, object_faults, result_faults, tag_unknown};
 pub use judgements::Judgements;
 pub use operands::Walked;
-pub use rules::{declared_name, sizes_given, sizes_given_behind_first};
+pub use rules::declared_name;

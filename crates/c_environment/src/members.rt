@@ -67,6 +67,8 @@ impl<'a> Members<'a> {
 #[derive(Drop)]
 pub struct Structure<'a> {
     pub members: Members<'a>,
+    /// Whether the members have begun (C11 6.7.2.3p1).
+    pub begun: bool,
     /// Whether the members are known, so that it is complete (C11 6.7.2.1p8).
     pub complete: bool,
     /// Whether its tag is declared, and not mentioned alone.

@@ -1088,7 +1088,7 @@ class Misfits:
             return bool(e) and (e[0] == "function" or e[0] == "variable" and e[1]["lasting"])
         if w in ("paren", "dot"):
             return self.lasting_place(x[2])
-        return w == "text" or w == "index" and self.lasting_place(x[2]) and self.may_be_size(x[3])
+        return w == "text" or w == "index" and self.lasting_place(x[2]) and (kind_of(self.operand(x[2])[0]) or ("",))[0] == "arr" and self.may_be_size(x[3])
 
     def is_static(self, i):
         return self.may_be_static(i[1]) if i[0] == "single" else all(self.is_static(p) for _, p in i[2])

@@ -3,8 +3,9 @@ use Rattle.std.specs.Prelude.{List, [], ◌∷◌, ◌++◌, Option, Some, None,
 use Rattle.c_tree.specs.declared.tree.AssignOp.TheVariants as assign_op
 use Rattle.c_tree.specs.declared.tree.BinaryOp.TheVariants as op
 use Rattle.c_tree.specs.declared.tree.Storage.{Storage}
+use Rattle.c_tree.specs.declared.tree.UnaryOp.TheVariants as unary_op
 use Rattle.c_tree.specs.declared.tree.Storage.TheVariants as storage
-use Rattle.c_tree.specs.Tree.{Name, Expression, assign, binary, size_of_type, call, dot, name, integer, Expressions, no_expressions, expressions, no_sizes, open_size, size, typed, Specifiers, no_specifiers, specifiers, const_word, void_word, int_word, type_name, struct_tag, struct_of, enum_of, no_members, member, no_declarators, declarators, no_enumerators, enumerator, enumerator_with, DeclaratorTree, plain, array, function, Parameters, no_parameters, parameters, named_form, bare_stars, single, listed, no_initializers, initializers, NamedTree, DeclarationTree, StatementTree, block, declaration, expression_statement, switch_statement, case_label, named_label, return_statement, goto_statement, ItemTree, function_item, declaration_item}
+use Rattle.c_tree.specs.Tree.{Name, Expression, assign, binary, size_of_type, unary, index, call, dot, name, integer, Expressions, no_expressions, expressions, no_sizes, open_size, size, typed, Specifiers, no_specifiers, specifiers, const_word, void_word, int_word, type_name, struct_tag, struct_of, enum_of, no_members, member, no_declarators, declarators, no_enumerators, enumerator, enumerator_with, DeclaratorTree, plain, array, function, Parameters, no_parameters, parameters, named_form, bare_stars, single, listed, no_initializers, initializers, NamedTree, DeclarationTree, StatementTree, block, declaration, expression_statement, switch_statement, case_label, named_label, return_statement, goto_statement, ItemTree, function_item, declaration_item}
 use Rattle.c_tree.specs.StatementView.{statements_of}
 
 -- ---- words
@@ -282,6 +283,17 @@ array_without_size = open_a (int_named (codes "a"))
 -- so it is no element of an array
 abbrev pub elements_without_size : List ItemTree
 elements_without_size = open_a (unset (array [] (codes "a") (size two no_sizes)) ∷ [])
+
+-- int *p; int *q = &p[1]; int main(void) { return 0; }
+-- where a pointer points to is its value: no element behind it has an address that is constant
+abbrev pub element_behind_a_pointer : List ItemTree
+element_behind_a_pointer =
+    outer int (unset (starred (codes "p")) ∷ []) ∷ outer int (record { declarator = starred (codes "q"); init = Some (single (unary unary_op.Address (index p one))) } ∷ []) ∷ ends [] ∷ []
+
+-- int a[2]; int *q = &a[1]; int main(void) { return 0; }
+abbrev pub element_of_an_array : List ItemTree
+element_of_an_array =
+    outer int (unset (array [] (codes "a") (size two no_sizes)) ∷ []) ∷ outer int (record { declarator = starred (codes "q"); init = Some (single (unary unary_op.Address (index a one))) } ∷ []) ∷ ends [] ∷ []
 
 -- typedef int A[]; int main(void) { A a; return 0; }
 abbrev pub local_without_size : List ItemTree

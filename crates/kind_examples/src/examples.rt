@@ -23,6 +23,7 @@ pub fn programs_fit()
     ensures array_initialised { Fits programs.array_initialised }
     ensures array_pointed_to { Fits programs.array_pointed_to }
     ensures goto_forward { Fits programs.goto_forward }
+    ensures element_of_an_array { Fits programs.element_of_an_array }
     ensures own_structure { Fits programs.own_structure }
     ensures own_pointer { Fits programs.own_pointer }
 {}
@@ -52,6 +53,7 @@ pub fn programs_break()
     ensures member_without_size { Breaks 5 KindMismatch programs.member_without_size }
     ensures enumerator_past_int { Breaks 4 NotConstant programs.enumerator_past_int }
     ensures static_initializer { Breaks 4 NotConstant programs.static_initializer }
+    ensures element_behind_a_pointer { Breaks 4 NotConstant programs.element_behind_a_pointer }
     ensures case_twice { Breaks 8 DeclaredTwice programs.case_twice }
     ensures goto_without_label { Breaks 3 UnknownName programs.goto_without_label }
     ensures built_in_structure { Breaks 7 UnknownName programs.built_in_structure }

@@ -113,3 +113,7 @@ returns-clause-tag_of_a_prototype c = refl
 pub returns-clause-begun_twice : goal.returns-clause-begun_twice
 unfolding profile_rows
 returns-clause-begun_twice c = refl
+
+pub returns-clause-element_behind_a_pointer : goal.returns-clause-element_behind_a_pointer
+unfolding profile_rows
+returns-clause-element_behind_a_pointer c = refl

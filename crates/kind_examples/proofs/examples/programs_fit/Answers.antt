@@ -77,3 +77,7 @@ returns-clause-own_structure c = refl
 pub returns-clause-own_pointer : goal.returns-clause-own_pointer
 unfolding profile_rows
 returns-clause-own_pointer c = refl
+
+pub returns-clause-element_of_an_array : goal.returns-clause-element_of_an_array
+unfolding profile_rows
+returns-clause-element_of_an_array c = refl

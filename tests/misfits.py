@@ -636,7 +636,7 @@ class Misfits:
         self.linked, self.initialised, self.labels, self.inside = {}, set(), set(), None
         self.implementation = {}
         for n, k in TYPES.items():
-            self.implementation[n] = ("type", dict(kind=k, fn=False, const=False, volatile=False, atomic=n == "sig_atomic_t"))
+            self.implementation[n] = ("type", dict(kind=k, fn=False, is_open=False, const=False, volatile=False, atomic=n == "sig_atomic_t"))
         for n, v in VALUES.items():
             self.implementation[n] = ("built_in", v)
         for n in OPEN:
@@ -647,7 +647,7 @@ class Misfits:
         for n in ROWS:
             self.implementation[n] = ("library", n)
         for tag, members in STRUCTURES:
-            self.structures.append(dict(members=dict(members), complete=True, declared=True))
+            self.structures.append(dict(members=dict(members), begun=True, complete=True, declared=True))
             if tag:
                 self.tags[0][tag] = ("struct", len(self.structures) - 1)
         self.functions = {i[5] for i in items if i[0] == "function"}
@@ -780,7 +780,7 @@ class Misfits:
         return t[1] if t and t[0] == "struct" else len(self.structures)
 
     def new_structure(self, n, declared):
-        self.structures.append(dict(members={}, complete=False, declared=declared))
+        self.structures.append(dict(members={}, begun=False, complete=False, declared=declared))
         if n is not None:
             self.tags[-1][n] = ("struct", len(self.structures) - 1)
         return len(self.structures) - 1
@@ -788,7 +788,7 @@ class Misfits:
     def specifiers(self, specs):
         """The type, what is broken, whether the nodes inside are settled, and whether it is a tag that isn't declared."""
         words, whole, broken, settled, unknown = [], None, set(), True, False
-        plain = lambda k: dict(kind=k, fn=False, const=False, volatile=False, atomic=False)
+        plain = lambda k: dict(kind=k, fn=False, is_open=False, const=False, volatile=False, atomic=False)
         for s in specs:
             words.append(s[0])
             if s[0] == "void":
@@ -807,9 +807,10 @@ class Misfits:
                     pass
             elif s[0] == "struct_of":
                 t = self.tags[-1].get(s[1]) if s[1] is not None else None
-                if t and (t[0] == "enum" or self.structures[t[1]]["complete"]):
+                if t and (t[0] == "enum" or self.structures[t[1]]["begun"]):
                     broken.add("repeated")
                 k = t[1] if t and t[0] == "struct" else self.new_structure(s[1], True)
+                self.structures[k]["begun"] = True
                 whole = plain(("struct", k))
                 members = {}
                 for inner, names in s[2]:
@@ -818,7 +819,7 @@ class Misfits:
                     settled &= ok
                     for d in names:
                         settled &= self.member(members, base, unk, d)
-                self.structures[k] = dict(members=members, complete=True, declared=True)
+                self.structures[k] = dict(members=members, begun=True, complete=True, declared=True)
             elif s[0] == "enum_tag":
                 t = self.tag(s[1])
                 if t and t[0] == "struct":
@@ -850,7 +851,7 @@ class Misfits:
 
     def pointed(self, stars, t):
         for quals in stars:
-            t = dict(kind=t["kind"] if t["fn"] else ptr(t["kind"]), fn=False, const="const" in quals, volatile="volatile" in quals, atomic=False)
+            t = dict(kind=t["kind"] if t["fn"] else ptr(t["kind"]), fn=False, is_open=False, const="const" in quals, volatile="volatile" in quals, atomic=False)
         return t
 
     def arrayed(self, sizes, t):
@@ -859,7 +860,10 @@ class Misfits:
         k = t["kind"]
         for _ in sizes:
             k = ("arr", k)
-        return dict(t, kind=k, atomic=False)
+        return dict(t, kind=k, is_open=sizes[0] is None, atomic=False)
+
+    def elements(self, is_open, sizes):
+        return {"incomplete"} if sizes and (is_open or None in sizes[1:]) else set()
 
     def incomplete(self, t):
         k = innermost(t["kind"])
@@ -874,7 +878,7 @@ class Misfits:
             base, faults, ok, unknown = self.specifiers(specs)
             t, inner, ok2, sizes_ok = self.declarator(base, d)
             ok &= ok2
-            t = dict(kind=ptr(t["kind"][1]), fn=False, const=False, volatile=False, atomic=False) if t["kind"][0] == "arr" else t
+            t = dict(kind=ptr(t["kind"][1]), fn=False, is_open=False, const=False, volatile=False, atomic=False) if t["kind"][0] == "arr" else t
             own = d[0] != "pointer" and not d[2]
             faults = faults | inner
             if own and unknown:
@@ -885,8 +889,7 @@ class Misfits:
                 faults.add("incomplete")
             if named:
                 n = d[3 if d[0] != "pointer" else 4]
-                sizes = d[4] if d[0] == "array" else d[5] if d[0] == "pointer" else []
-                j = self.declared_rule(faults, bool(self.here(n)), sizes_ok, None not in sizes[1:], t["kind"]) if ok else WAITS
+                j = self.declared_rule(faults, bool(self.here(n)), sizes_ok, not t["is_open"], t["kind"]) if ok else WAITS
                 settled &= self.close(at, j)
                 self.names[-1][n] = ("variable" if has_body else "parameter", dict(t, linked=False, lasting=False))
             else:
@@ -902,19 +905,19 @@ class Misfits:
             return t, set(), True, True
         if d[0] == "array":
             ok, sizes_ok = self.sizes(d[4])
-            return self.arrayed(d[4], t), set(), ok, sizes_ok
+            return self.arrayed(d[4], t), self.elements(t["is_open"], d[4]), ok, sizes_ok
         broken = {"passed"} if t["kind"][0] in ("struct", "set") else set()
         if d[0] == "function":
             self.enter()
             kinds, faults, ok = self.parameters(False, d[4])
             self.leave()
-            return dict(kind=fn(kinds, t["kind"]), fn=True, const=False, volatile=False, atomic=False), broken | faults, ok, True
+            return dict(kind=fn(kinds, t["kind"]), fn=True, is_open=False, const=False, volatile=False, atomic=False), broken | faults, ok, True
         ok, sizes_ok = self.sizes(d[5])
         self.enter()
         kinds, faults, ok2 = self.parameters(False, d[6])
         self.leave()
-        t = dict(kind=fn(kinds, t["kind"]), fn=False, const="const" in d[3], volatile="volatile" in d[3], atomic=False)
-        return self.arrayed(d[5], t), broken | faults, ok and ok2, sizes_ok
+        t = dict(kind=fn(kinds, t["kind"]), fn=False, is_open=False, const="const" in d[3], volatile="volatile" in d[3], atomic=False)
+        return self.arrayed(d[5], t), broken | faults | self.elements(False, d[5]), ok and ok2, sizes_ok
 
     def sizes(self, sizes):
         ok, constant = True, True
@@ -934,12 +937,11 @@ class Misfits:
         at = self.node(d[1])
         t, faults, ok, constant = self.declarator(base, d)
         n = d[3 if d[0] != "pointer" else 4]
-        sizes = d[4] if d[0] == "array" else d[5] if d[0] == "pointer" else []
         if d[0] in ("plain", "array") and not d[2] and unknown:
             faults = faults | {"unknown"}
         if self.incomplete(t):
             faults = faults | {"incomplete"}
-        j = self.declared_rule(faults, n in members, constant, None not in sizes, t["kind"]) if ok else WAITS
+        j = self.declared_rule(faults, n in members, constant, not t["is_open"], t["kind"]) if ok else WAITS
         members[n] = t["kind"]
         return self.close(at, j)
 
@@ -1086,7 +1088,7 @@ class Misfits:
             return bool(e) and (e[0] == "function" or e[0] == "variable" and e[1]["lasting"])
         if w in ("paren", "dot"):
             return self.lasting_place(x[2])
-        return w == "text" or w == "index" and self.lasting_place(x[2]) and self.may_be_size(x[3])
+        return w == "text" or w == "index" and self.lasting_place(x[2]) and (kind_of(self.operand(x[2])[0]) or ("",))[0] == "arr" and self.may_be_size(x[3])
 
     def is_static(self, i):
         return self.may_be_static(i[1]) if i[0] == "single" else all(self.is_static(p) for _, p in i[2])
@@ -1161,7 +1163,6 @@ class Misfits:
         at = self.node(d[1])
         n = d[3 if d[0] != "pointer" else 4]
         t, faults, ok, constant = self.declarator(base, d)
-        sizes = d[4] if d[0] == "array" else d[5] if d[0] == "pointer" else []
         file = self.inside is None
         linkage = storage != "typedef" and (t["fn"] or file or storage == "extern")
         if storage != "typedef" and d[0] != "function":
@@ -1172,12 +1173,11 @@ class Misfits:
         twice = self.clash(n, linkage, t["fn"]) or init is not None and linkage and n in self.initialised
         differs = linkage and self.differs(n, t["kind"])
         self.declare(storage, n, t)
-        if init is not None and file:
+        if init is not None and linkage:
             self.initialised.add(n)
         not_static = init is not None and (file or storage in ("static", "extern")) and not self.is_static(init)
         m, ok2, _ = self.initializer(t["kind"], init) if init else (None, True, None)
-        open_ = init is not None or storage == "extern"
-        complete = storage == "typedef" or None not in (sizes[1:] if open_ else sizes)
+        complete = not t["is_open"] or init is not None or storage in ("extern", "typedef")
         j = WAITS
         if ok and ok2:
             j = FITS(t["kind"])

@@ -1,3 +1,5 @@
 pub mod Aligned
-pub mod Lists
+pub mod Firsts
 pub mod Joins
+pub mod Lists
+pub mod Views

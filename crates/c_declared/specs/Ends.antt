@@ -1,5 +1,5 @@
 -- What is said of a declared name behind its declarator, by what that gives.
-use Rattle.std.specs.Prelude.{Bool, false, is_some, if◌then◌else◌}
+use Rattle.std.specs.Prelude.{Bool, false, not, is_some, if◌then◌else◌}
 use Rattle.c_tree.specs.Tree.{DeclaratorTree}
 use Rattle.c_tree.specs.DeclaredNames.{declarator_name}
 use Rattle.c_environment.specs.Entity.{DeclaredType, Members, member}
@@ -9,7 +9,6 @@ use Rattle.c_rules.specs.Judgement.{Judgement, waits}
 use Rattle.c_declared.specs.declared.faults.Faults.{Faults}
 use Rattle.c_declared.specs.Faults.{faults_of_both, incomplete_type, is_passed}
 use Rattle.c_declared.specs.Nodes.{declared_rule}
-use Rattle.c_declared.specs.Sizes.{sizes_of, are_given, are_given_behind_first}
 
 -- an object with this type, whose tag was unknown before its declarator, or not
 abbrev pub object_type_faults : Environment → Bool → DeclaredType → Faults
@@ -22,7 +21,7 @@ parameter_type_faults further is_unknown t = record { unknown = is_unknown; repe
 abbrev pub member_judgement : Environment → Bool → Members → DeclaratorTree → Bool → Faults → Bool → DeclaredType → Judgement
 member_judgement further is_unknown earlier d settled faults are_constant t =
     if settled
-    then declared_rule (faults_of_both (object_type_faults further is_unknown t) faults) (is_some (member earlier (declarator_name d))) are_constant (are_given (sizes_of d)) t.kind
+    then declared_rule (faults_of_both (object_type_faults further is_unknown t) faults) (is_some (member earlier (declarator_name d))) are_constant (not t.is_open) t.kind
     else waits
 
 -- a parameter with a name; its specifiers have these faults
@@ -30,5 +29,5 @@ abbrev pub parameter_judgement : Environment → Bool → Faults → DeclaratorT
 parameter_judgement further is_unknown outside d settled faults are_constant t =
     if settled
     then declared_rule (faults_of_both outside (faults_of_both (parameter_type_faults further is_unknown (adjusted t)) faults)) (is_declared_here further (declarator_name d)) are_constant
-    (are_given_behind_first (sizes_of d)) (adjusted t).kind
+    (not (adjusted t).is_open) (adjusted t).kind
     else waits

@@ -1,13 +1,14 @@
 -- What breaks a rule in types and declarators outside of the nodes that stand in them: it is told at the innermost node whose text holds it.
 use Rattle.std.specs.Prelude.{ℕ, [], ◌∷◌, Option, Some, None, Bool, true, false, not, ◌&&◌, ◌||◌, is_some, is_none}
 use Rattle.c_kinds.specs.Kind.{Kind, structure, innermost}
-use Rattle.c_tree.specs.Tree.{Name, Stars, TypeTree, typed, Specifiers, no_specifiers, specifiers, Specifier, struct_tag, struct_of, enum_tag, enum_of, Members, no_members, member, DeclaratorTree, plain, array, function, pointer, Parameters, no_parameters, parameters, ParameterForm, named_form, bare_form, BareTree, bare_stars, bare_pointer}
+use Rattle.c_tree.specs.Tree.{Name, Stars, Sizes, TypeTree, typed, Specifiers, no_specifiers, specifiers, Specifier, struct_tag, struct_of, enum_tag, enum_of, Members, no_members, member, DeclaratorTree, plain, array, function, pointer, Parameters, no_parameters, parameters, ParameterForm, named_form, bare_form, BareTree, bare_stars, bare_pointer}
 use Rattle.c_environment.specs.Entity.{DeclaredType, Structure}
 use Rattle.c_environment.specs.Environment.{Environment, tag, tag_here, structure as structure_at, entered}
 use Rattle.c_environment.specs.Types.{specified, pointed, adjusted}
 use Rattle.c_environment.specs.Behind.{opened, behind_specifiers, behind_declarators, behind_sizes, behind_specifier, behind_bare, behind_form, bare}
 use Rattle.c_rules.specs.Declarations.{object_misfit, passed_misfit}
 use Rattle.c_declared.specs.declared.faults.Faults.{Faults}
+use Rattle.c_declared.specs.Sizes.{elements_are_complete}
 
 -- Which rules are broken: an object has the type of a tag that isn't declared; a tag is declared twice, or as a structure and as an
 -- enumeration; a structure or a sigset_t is passed or returned by value; an object's type isn't complete, or is void or a function's.
@@ -22,15 +23,15 @@ repeated_if holds = record no_faults { repeated = holds }
 
 -- ---- tags (6.7.2.3)
 
--- braces: this block has declared the tag already with its members (p1), or as an enumeration (p3)
-abbrev pub is_completed : Option Structure → Bool
-is_completed None = false
-is_completed (Some s) = s.complete
+-- braces: members of the tag have begun in this block already (p1), though they may not have ended, or it is an enumeration's (p3)
+abbrev pub has_begun : Option Structure → Bool
+has_begun None = false
+has_begun (Some s) = s.begun
 
 abbrev pub structure_clashes : Environment → Option (Option ℕ) → Bool
 structure_clashes env None = false
 structure_clashes env (Some None) = true
-structure_clashes env (Some (Some k)) = is_completed (structure_at env k)
+structure_clashes env (Some (Some k)) = has_begun (structure_at env k)
 
 abbrev pub names_enumeration : Option (Option ℕ) → Bool
 names_enumeration (Some None) = true
@@ -64,6 +65,10 @@ tag_unknown env (specifiers (enum_tag n) ws) = is_none (tag env n)
 tag_unknown env (specifiers w ws) = tag_unknown env ws
 
 -- ---- objects (6.7p7)
+
+abbrev pub is_completed : Option Structure → Bool
+is_completed None = false
+is_completed (Some s) = s.complete
 
 abbrev pub is_complete : Environment → Kind → Bool
 is_complete env (structure k) = is_completed (structure_at env k)
@@ -138,11 +143,16 @@ abbrev mutual
   faults_bare env t (bare_stars ss) = no_faults
   faults_bare env t (bare_pointer ss qs ps v) = faults_of_both (result_faults (pointed ss t)) (faults_parameters false (entered env) ps)
 
+-- an array with these sizes (6.7.6.2p1), whatever is declared with it
+abbrev pub element_faults : Bool → Sizes → Faults
+element_faults is_open xs = record no_faults { incomplete = not (elements_are_complete is_open xs) }
+
 abbrev pub faults_declarator : Environment → DeclaredType → DeclaratorTree → Faults
 faults_declarator env t (plain ss n) = no_faults
-faults_declarator env t (array ss n xs) = no_faults
+faults_declarator env t (array ss n xs) = element_faults (pointed ss t).is_open xs
 faults_declarator env t (function ss n ps v) = faults_of_both (result_faults (pointed ss t)) (faults_parameters false (entered env) ps)
-faults_declarator env t (pointer ss qs n xs ps v) = faults_of_both (result_faults (pointed ss t)) (faults_parameters false (entered (behind_sizes env xs)) ps)
+faults_declarator env t (pointer ss qs n xs ps v) =
+    faults_of_both (element_faults false xs) (faults_of_both (result_faults (pointed ss t)) (faults_parameters false (entered (behind_sizes env xs)) ps))
 
 -- the type name of a cast or of sizeof: no object has its type
 abbrev pub faults_type : Environment → TypeTree → Faults

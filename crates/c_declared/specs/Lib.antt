@@ -3,6 +3,9 @@ pub mod Denotes
 pub mod Operands
 pub mod Faults
 pub mod Sizes
+pub mod StaticConstants
+pub mod Constness
 pub mod Nodes
 pub mod Seen
 pub mod Ends
+pub mod Parts

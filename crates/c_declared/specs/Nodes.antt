@@ -25,12 +25,12 @@ use Rattle.c_declared.specs.Said.{Said, nothing, both, node, once}
 use Rattle.c_declared.specs.Operands.{Rows, valued, placed, named_operand, row_of, called, as_callee, member_kind, pointed_member}
 use Rattle.c_declared.specs.declared.faults.Faults.{Faults}
 use Rattle.c_declared.specs.Faults.{faults_of_both, faults_specifiers, faults_declarator, faults_type, object_faults, parameter_faults, is_own}
-use Rattle.c_declared.specs.Sizes.{are_sizes, sizes_of, are_given, are_given_behind_first}
+use Rattle.c_declared.specs.Sizes.{are_sizes, sizes_of}
 
 abbrev pub broken : Bool → MisfitKind → Option MisfitKind
 broken holds m = if holds then Some m else None
 
--- by these faults, by whether a name is declared twice, whether the sizes are constant and whether they are given as the place asks
+-- by these faults, by whether a name is declared twice, whether the sizes are constant and whether the first is given as the place asks
 abbrev pub declared_rule : Faults → Bool → Bool → Bool → Kind → Judgement
 declared_rule f is_twice are_constant are_complete k =
     unless (broken f.unknown UnknownName)
@@ -48,14 +48,14 @@ type_rule f j =
 abbrev pub member_rule : Environment → Members → Specifiers → DeclaredType → DeclaratorTree → Judgement
 member_rule env earlier ws t d =
     declared_rule (faults_of_both (object_faults env (behind_declarator env d) ws (is_own d) (declared env t d)) (faults_declarator env t d))
-    (is_some (e.member earlier (declarator_name d))) (are_sizes env (sizes_of d)) (are_given (sizes_of d)) (declared env t d).kind
+    (is_some (e.member earlier (declarator_name d))) (are_sizes env (sizes_of d)) (not (declared env t d).is_open) (declared env t d).kind
 
 -- a parameter with a name (6.7.6.3), behind its specifiers
 abbrev pub parameter_rule : Environment → Environment → Specifiers → DeclaredType → DeclaratorTree → Judgement
 parameter_rule outside env ws t d =
     declared_rule
     (faults_of_both (faults_specifiers outside ws) (faults_of_both (parameter_faults env (behind_declarator env d) ws (is_own d) (adjusted (declared env t d))) (faults_declarator env t d)))
-    (is_declared_here (behind_declarator env d) (declarator_name d)) (are_sizes env (sizes_of d)) (are_given_behind_first (sizes_of d)) (adjusted (declared env t d)).kind
+    (is_declared_here (behind_declarator env d) (declarator_name d)) (are_sizes env (sizes_of d)) (not (adjusted (declared env t d)).is_open) (adjusted (declared env t d)).kind
 
 -- an enumerator (6.7.2.2): a constant's name is none of the implementation's, and its value is one of int
 abbrev pub enumerator_rule : Environment → Name → Option ℤ → Judgement

@@ -1,5 +1,5 @@
 -- The sizes of arrays (C11 6.7.6.2). They aren't evaluated.
-use Rattle.std.specs.Prelude.{Bool, true, false, ◌&&◌, Option, Some}
+use Rattle.std.specs.Prelude.{Bool, true, false, not, ◌&&◌, Option, Some}
 use Rattle.c_tree.specs.declared.tree.UnaryOp.{UnaryOp}
 use Rattle.c_tree.specs.declared.tree.UnaryOp.TheVariants as u
 use Rattle.c_tree.specs.Tree.{Expression, choose, binary, unary, size_of, size_of_type, name, integer, character, paren, Sizes, no_sizes, open_size, size, DeclaratorTree, array, pointer}
@@ -45,13 +45,14 @@ sizes_of (array ss n xs) = xs
 sizes_of (pointer ss qs n xs ps v) = xs
 sizes_of _ = no_sizes
 
--- the elements of an array have a complete type (p1): only the first size may be left open
 abbrev pub are_given : Sizes → Bool
 are_given no_sizes = true
 are_given (open_size xs) = false
 are_given (size x xs) = are_given xs
 
-abbrev pub are_given_behind_first : Sizes → Bool
-are_given_behind_first no_sizes = true
-are_given_behind_first (open_size xs) = are_given xs
-are_given_behind_first (size x xs) = are_given xs
+-- The elements of an array have a complete type (p1), which an array without a size isn't (6.2.5p22): the type before its sizes is none, and
+-- only the first size may be left open.
+abbrev pub elements_are_complete : Bool → Sizes → Bool
+elements_are_complete is_open no_sizes = true
+elements_are_complete is_open (open_size xs) = not is_open && are_given xs
+elements_are_complete is_open (size x xs) = not is_open && are_given xs

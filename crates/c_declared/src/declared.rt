@@ -1,6 +1,6 @@
 //! What types and declarators give, beside the nodes that stand in them (C11 6.7.6, 6.7.7).
 
-ghost use Rattle.std.specs.Prelude.{◌≡◌, ◌&&◌, true, map, option_map, IfOk};
+ghost use Rattle.std.specs.Prelude.{◌≡◌, ◌&&◌, true, false, map, option_map, IfOk};
 ghost use Rattle.c_kinds.specs.View.{view};
 ghost use Rattle.c_tree.specs.Tree.{no_sizes};
 ghost use Rattle.c_tree.specs.View.{view_expression, sizes_of};
@@ -9,7 +9,7 @@ ghost use Rattle.c_environment.specs.Types as types;
 ghost use Rattle.c_declared.specs.Ends.{parameter_type_faults};
 ghost use Rattle.c_declared.specs.Faults as spec;
 
-use crate::faults::{Faults, both, parameter_faults, result_faults};
+use crate::faults::{Faults, both, element_faults, parameter_faults, result_faults};
 use c_environment::{DeclaredType, Environment};
 use c_kinds::{CType, Types};
 use c_tree::{Expr, Qual, Quals};
@@ -96,16 +96,18 @@ pub(crate) fn array_declared(
 ) -> Result<Boxed<Declared>, AllocError>
     ensures settled { IfOk result (λ d. d.settled ≡ part.settled) }
     ensures sizes { IfOk result (λ d. d.are_sizes ≡ part.are_sizes) }
-    ensures faults { IfOk result (λ d. d.faults ≡ spec.no_faults) }
+    ensures faults { IfOk result (λ d. d.faults ≡ spec.element_faults (types.pointed stars.now (seen_type of.now)).is_open (sizes_of (map (option_map view_expression) sizes.now))) }
     ensures of { IfOk result (λ d. seen_type d.of ≡ types.arrayed (sizes_of (map (option_map view_expression) sizes.now)) (types.pointed stars.now (seen_type of.now))) }
 {
-    let of = pointed(alloc, of, stars)?.arrayed(alloc, sizes)?;
+    let element = pointed(alloc, of, stars)?;
+    let faults = element_faults(element.is_open, sizes);
+    let of = element.arrayed(alloc, sizes)?;
     Ok(Boxed::new(
         alloc,
         Declared {
             settled: part.settled,
             are_sizes: part.are_sizes,
-            faults: Faults::none(),
+            faults,
             of,
         },
     )?)
@@ -152,7 +154,7 @@ pub(crate) fn pointer_declared(
 ) -> Result<Boxed<Declared>, AllocError>
     ensures settled { IfOk result (λ d. d.settled ≡ (part.settled && parameters.settled)) }
     ensures sizes { IfOk result (λ d. d.are_sizes ≡ part.are_sizes) }
-    ensures faults { IfOk result (λ d. d.faults ≡ spec.faults_of_both (spec.result_faults (types.pointed stars.now (seen_type of.now))) parameters.faults) }
+    ensures faults { IfOk result (λ d. d.faults ≡ spec.faults_of_both (spec.element_faults false (sizes_of (map (option_map view_expression) sizes.now))) (spec.faults_of_both (spec.result_faults (types.pointed stars.now (seen_type of.now))) parameters.faults)) }
     ensures of { IfOk result (λ d. seen_type d.of ≡ types.pointer_type quals.now (sizes_of (map (option_map view_expression) sizes.now)) (map view parameters.kinds.items) (types.pointed stars.now (seen_type of.now))) }
 {
     let ParametersPart {
@@ -161,7 +163,7 @@ pub(crate) fn pointer_declared(
         kinds,
     } = parameters.into_inner();
     let gives = pointed(alloc, of, stars)?;
-    let faults = result_faults(&gives).and(faults);
+    let faults = element_faults(false, sizes).and(result_faults(&gives).and(faults));
     let kinds = Types::new(alloc, kinds)?;
     let of = gives.pointer_type(alloc, quals, sizes, kinds)?;
     Ok(Boxed::new(
@@ -230,8 +232,8 @@ pub(crate) fn bare_parameter(
     bare: Boxed<Declared>,
 ) -> Result<Boxed<Declared>, AllocError>
     ensures settled { IfOk result (λ d. d.settled ≡ (part.settled && bare.settled)) }
-    ensures faults { IfOk result (λ d. d.faults ≡ spec.faults_of_both part.faults (spec.faults_of_both (parameter_type_faults (seen_environment env.now) unknown (seen_type bare.of)) bare.faults)) }
-    ensures of { IfOk result (λ d. seen_type d.of ≡ seen_type bare.of) }
+    ensures faults { IfOk result (λ d. d.faults ≡ spec.faults_of_both part.faults (spec.faults_of_both (parameter_type_faults (seen_environment env.now) unknown (types.adjusted (seen_type bare.of))) bare.faults)) }
+    ensures of { IfOk result (λ d. seen_type d.of ≡ types.adjusted (seen_type bare.of)) }
 {
     let Declared {
         settled,
@@ -239,6 +241,7 @@ pub(crate) fn bare_parameter(
         faults,
         of,
     } = bare.into_inner();
+    let of = of.adjusted()?;
     let own = parameter_faults(env, unknown, &of).and(faults);
     Ok(Boxed::new(
         alloc,

@@ -2,14 +2,11 @@
 
 ghost use Rattle.std.specs.Prelude.{◌≡◌, option_map, IfOk};
 ghost use Rattle.c_kinds.specs.View.{view};
-ghost use Rattle.c_environment.specs.Environment.{entity};
 ghost use Rattle.c_environment.specs.Seen.{seen_variable, seen_entity, seen_environment};
 ghost use Rattle.c_rules.specs.Seen.{seen_operand};
 ghost use Rattle.c_declared.specs.Denotes as denotes;
 ghost use Rattle.c_declared.specs.Operands as spec;
-ghost use Rattle.c_declared.specs.Sizes.{is_constant};
 
-use c_builtins::BuiltIn;
 use c_environment::{Entity, Environment, Variable};
 use c_kinds::CType;
 use c_rules::{Denoted, Operand, name_form, named};
@@ -100,26 +97,4 @@ pub(crate) fn named_operand(
         verdict,
         form: name_form(denoted),
     })
-}
-
-fn is_constant_entity(entity: Option<&Entity>) -> bool
-    ensures { result ≡ is_constant (option_map (λ e. seen_entity e.now) entity.entry) }
-{
-    match entity {
-        Some(Entity::Enumerator(_)) => true,
-        Some(Entity::BuiltIn(built_in)) => {
-            matches!(
-                built_in.get(),
-                BuiltIn::Number(_) | BuiltIn::Null | BuiltIn::Opaque
-            )
-        }
-        _ => false,
-    }
-}
-
-/// Whether a name stands for an enumerator or a constant of type int.
-pub(crate) fn is_constant_name(env: &Environment, name: &[u8]) -> bool
-    ensures { result ≡ is_constant (entity (seen_environment env.now) name.now) }
-{
-    is_constant_entity(env.entity(name))
 }

@@ -2,17 +2,18 @@
 
 ghost use Rattle.std.specs.Prelude.{◌≡◌, ◌&&◌, map, option_map};
 ghost use Rattle.c_kinds.specs.View.{view};
-ghost use Rattle.c_tree.specs.View.{view_specifier, specifiers_of, view_declarator, view_bare};
+ghost use Rattle.c_tree.specs.View.{view_expression, view_specifier, specifiers_of, sizes_of, view_declarator, view_bare};
 ghost use Rattle.c_environment.specs.Environment.{tag};
 ghost use Rattle.c_environment.specs.Seen.{seen_type, seen_structure, seen_environment};
 ghost use Rattle.c_declared.specs.Ends.{object_type_faults, parameter_type_faults};
 ghost use Rattle.c_declared.specs.Faults as spec;
+ghost use Rattle.c_declared.specs.Sizes as sizes;
 
 use base_core::Lexeme;
 use c_environment::{DeclaredType, Environment, Structure};
 use c_kinds::CType;
 use c_rules::{object_misfit, passed_misfit};
-use c_tree::{Bare, Declarator, Quals, SpecWord};
+use c_tree::{Bare, Declarator, Expr, Quals, SpecWord};
 
 /// Which rules are broken.
 #[derive(Clone, Copy)]
@@ -72,11 +73,11 @@ impl Faults {
     }
 }
 
-fn is_completed(structure: Option<&Structure>) -> bool
-    ensures { result ≡ spec.is_completed (option_map (λ s. seen_structure s.now) structure.entry) }
+fn has_begun(structure: Option<&Structure>) -> bool
+    ensures { result ≡ spec.has_begun (option_map (λ s. seen_structure s.now) structure.entry) }
 {
     match structure {
-        Some(structure) => structure.complete,
+        Some(structure) => structure.begun,
         None => false,
     }
 }
@@ -87,7 +88,7 @@ fn structure_clashes(env: &Environment, known: Option<Option<u32>>) -> bool
     match known {
         None => false,
         Some(None) => true,
-        Some(Some(number)) => is_completed(env.structure(number)),
+        Some(Some(number)) => has_begun(env.structure(number)),
     }
 }
 
@@ -183,6 +184,15 @@ pub fn tag_unknown(env: &Environment, specs: &[SpecWord]) -> bool
     false
 }
 
+fn is_completed(structure: Option<&Structure>) -> bool
+    ensures { result ≡ spec.is_completed (option_map (λ s. seen_structure s.now) structure.entry) }
+{
+    match structure {
+        Some(structure) => structure.complete,
+        None => false,
+    }
+}
+
 fn is_complete(env: &Environment, kind: &CType) -> bool
     ensures { result ≡ spec.is_complete (seen_environment env.now) (view kind.now) }
 {
@@ -268,5 +278,40 @@ pub fn result_faults(of: &DeclaredType) -> Faults
         repeated: false,
         passed: is_passed(&of.kind),
         incomplete: false,
+    }
+}
+
+/// Whether all sizes of an array are given.
+fn are_given(all: &[Option<Expr>]) -> bool
+    ensures { result ≡ sizes.are_given (sizes_of (map (option_map view_expression) all.now)) }
+{
+    for size in all {
+        match size {
+            Some(_) => {}
+            None => return false,
+        }
+    }
+    true
+}
+
+fn elements_are_complete(is_open: bool, all: &[Option<Expr>]) -> bool
+    ensures { result ≡ sizes.elements_are_complete is_open (sizes_of (map (option_map view_expression) all.now)) }
+{
+    match all {
+        [] => true,
+        [Some(_), more @ ..] => !is_open && are_given(more),
+        [None, more @ ..] => !is_open && are_given(more),
+    }
+}
+
+/// The faults of an array with these sizes, of what is an array without a size or not (C11 6.7.6.2p1).
+pub(crate) fn element_faults(is_open: bool, all: &[Option<Expr>]) -> Faults
+    ensures { result ≡ spec.element_faults is_open (sizes_of (map (option_map view_expression) all.now)) }
+{
+    Faults {
+        unknown: false,
+        repeated: false,
+        passed: false,
+        incomplete: !elements_are_complete(is_open, all),
     }
 }

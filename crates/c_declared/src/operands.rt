@@ -1,6 +1,6 @@
 //! An expression by its rule from its parts (C11 6.5).
 
-ghost use Rattle.std.specs.Prelude.{◌≡◌, option_map, option_copied, true, false, ◌&&◌, IfOk};
+ghost use Rattle.std.specs.Prelude.{◌≡◌, ◌<◌, option_map, option_copied, length, IfOk, OnOk};
 ghost use Rattle.c_kinds.specs.View.{view};
 ghost use Rattle.c_tree.specs.View.{view_expression};
 ghost use Rattle.c_environment.specs.Environment.{entity};
@@ -14,9 +14,13 @@ ghost use Rattle.c_rules.specs.Operators as operators;
 ghost use Rattle.c_rules.specs.Values as values;
 ghost use Rattle.c_rules.specs.Seen.{seen, seen_operand, seen_operands};
 ghost use Rattle.c_declared.specs.Operands as spec;
-ghost use Rattle.c_declared.specs.Sizes as sizes;
+ghost use Rattle.c_declared.specs.Constness as spec_constness;
+ghost use Rattle.c_declared.specs.Seen.{shown};
+ghost use Rattle.c_judgements.specs.Parts.{closed};
 
-use crate::denoted::{is_constant_name, library_of, named_operand};
+use crate::constness::Constness;
+use crate::denoted::{library_of, named_operand};
+use crate::judgements::Judgements;
 use c_environment::{Environment, Structure};
 use c_kinds::CType;
 use c_rules::{
@@ -33,8 +37,8 @@ use std::alloc::{AllocError, Global};
 pub struct Walked {
     /// It as an operand.
     pub operand: Operand,
-    /// Whether it is an integer constant expression, without casts (C11 6.6p6).
-    pub is_size: bool,
+    /// Which constant expressions it is.
+    pub constness: Constness,
 }
 
 fn member_of<'e>(structure: Option<&'e Structure>, member: &[u8]) -> Option<&'e CType>
@@ -88,16 +92,16 @@ pub(crate) fn with_form(
     alloc: Global,
     verdict: Verdict,
     form: Form,
-    is_size: bool,
+    constness: Constness,
 ) -> Result<Boxed<Walked>, AllocError>
     ensures operand { IfOk result (λ w. seen_operand w.operand ≡ spec.placed (seen verdict) form) }
-    ensures size { IfOk result (λ w. w.is_size ≡ is_size) }
+    ensures constness { IfOk result (λ w. w.constness ≡ constness) }
 {
     Ok(Boxed::new(
         alloc,
         Walked {
             operand: Operand { verdict, form },
-            is_size,
+            constness,
         },
     )?)
 }
@@ -108,9 +112,9 @@ pub(crate) fn walked_comma(
     y: &Walked,
 ) -> Result<Boxed<Walked>, AllocError>
     ensures operand { IfOk result (λ w. seen_operand w.operand ≡ spec.valued (operators.comma (seen_operand x.now.operand) (seen_operand y.now.operand))) }
-    ensures size { IfOk result (λ w. w.is_size ≡ false) }
+    ensures constness { IfOk result (λ w. w.constness ≡ spec_constness.of_none) }
 {
-    with_form(alloc, comma(&x.operand, &y.operand)?, Form::plain(), false)
+    with_form(alloc, comma(&x.operand, &y.operand)?, Form::plain(), Constness::none())
 }
 
 pub(crate) fn walked_assign(
@@ -120,13 +124,13 @@ pub(crate) fn walked_assign(
     y: &Walked,
 ) -> Result<Boxed<Walked>, AllocError>
     ensures operand { IfOk result (λ w. seen_operand w.operand ≡ spec.valued (values.assign op (seen_operand x.now.operand) (seen_operand y.now.operand))) }
-    ensures size { IfOk result (λ w. w.is_size ≡ false) }
+    ensures constness { IfOk result (λ w. w.constness ≡ spec_constness.of_none) }
 {
     with_form(
         alloc,
         assign(op, &x.operand, &y.operand)?,
         Form::plain(),
-        false,
+        Constness::none(),
     )
 }
 
@@ -137,14 +141,14 @@ pub(crate) fn walked_choose(
     y: &Walked,
 ) -> Result<Boxed<Walked>, AllocError>
     ensures operand { IfOk result (λ w. seen_operand w.operand ≡ spec.valued (operators.choose (seen_operand first.now.operand) (seen_operand x.now.operand) (seen_operand y.now.operand))) }
-    ensures size { IfOk result (λ w. w.is_size ≡ (first.now.is_size && x.now.is_size && y.now.is_size)) }
+    ensures constness { IfOk result (λ w. w.constness ≡ spec_constness.of_choice first.now.constness x.now.constness y.now.constness) }
 {
-    let is_size = first.is_size && x.is_size && y.is_size;
+    let constness = first.constness.choice(x.constness, y.constness);
     with_form(
         alloc,
         choose(&first.operand, &x.operand, &y.operand)?,
         Form::plain(),
-        is_size,
+        constness,
     )
 }
 
@@ -155,21 +159,15 @@ pub(crate) fn walked_binary(
     y: &Walked,
 ) -> Result<Boxed<Walked>, AllocError>
     ensures operand { IfOk result (λ w. seen_operand w.operand ≡ spec.valued (operators.binary op (seen_operand x.now.operand) (seen_operand y.now.operand))) }
-    ensures size { IfOk result (λ w. w.is_size ≡ (x.now.is_size && y.now.is_size)) }
+    ensures constness { IfOk result (λ w. w.constness ≡ spec_constness.of_two x.now.constness y.now.constness) }
 {
-    let is_size = x.is_size && y.is_size;
+    let constness = x.constness.and(y.constness);
     with_form(
         alloc,
         binary(op, &x.operand, &y.operand)?,
         Form::plain(),
-        is_size,
+        constness,
     )
-}
-
-fn is_arithmetic(op: UnaryOp) -> bool
-    ensures { result ≡ sizes.is_arithmetic op }
-{
-    !matches!(op, UnaryOp::Address | UnaryOp::Follow)
 }
 
 pub(crate) fn walked_unary(
@@ -178,25 +176,24 @@ pub(crate) fn walked_unary(
     x: &Walked,
 ) -> Result<Boxed<Walked>, AllocError>
     ensures operand { IfOk result (λ w. seen_operand w.operand ≡ spec.placed (operators.unary op (seen_operand x.now.operand)) (form.unary_form op (seen_operand x.now.operand))) }
-    ensures size { IfOk result (λ w. w.is_size ≡ (sizes.is_arithmetic op && x.now.is_size)) }
+    ensures constness { IfOk result (λ w. w.constness ≡ spec_constness.of_unary op x.now.constness) }
 {
-    let is_size = is_arithmetic(op) && x.is_size;
-    let verdict = unary(alloc, op, &x.operand)?;
-    with_form(alloc, verdict, unary_form(op, &x.operand), is_size)
+        let verdict = unary(alloc, op, &x.operand)?;
+    with_form(alloc, verdict, unary_form(op, &x.operand), x.constness.unary(op))
 }
 
 pub(crate) fn walked_step(alloc: Global, x: &Walked) -> Result<Boxed<Walked>, AllocError>
     ensures operand { IfOk result (λ w. seen_operand w.operand ≡ spec.valued (values.step (seen_operand x.now.operand))) }
-    ensures size { IfOk result (λ w. w.is_size ≡ false) }
+    ensures constness { IfOk result (λ w. w.constness ≡ spec_constness.of_none) }
 {
-    with_form(alloc, step(&x.operand)?, Form::plain(), false)
+    with_form(alloc, step(&x.operand)?, Form::plain(), Constness::none())
 }
 
 pub(crate) fn walked_size_of(alloc: Global, x: &Walked) -> Result<Boxed<Walked>, AllocError>
     ensures operand { IfOk result (λ w. seen_operand w.operand ≡ spec.valued (conversions.size_of (seen_operand x.now.operand))) }
-    ensures size { IfOk result (λ w. w.is_size ≡ true) }
+    ensures constness { IfOk result (λ w. w.constness ≡ spec_constness.of_constant) }
 {
-    with_form(alloc, size_of(&x.operand), Form::plain(), true)
+    with_form(alloc, size_of(&x.operand), Form::plain(), Constness::constant())
 }
 
 pub(crate) fn walked_index(
@@ -205,10 +202,11 @@ pub(crate) fn walked_index(
     y: &Walked,
 ) -> Result<Boxed<Walked>, AllocError>
     ensures operand { IfOk result (λ w. seen_operand w.operand ≡ spec.placed (access.index (seen_operand x.now.operand) (seen_operand y.now.operand)) (form.index_form (seen_operand x.now.operand))) }
-    ensures size { IfOk result (λ w. w.is_size ≡ false) }
+    ensures constness { IfOk result (λ w. w.constness ≡ spec_constness.of_index x.now.constness (kind (seen x.now.operand.verdict)) y.now.constness) }
 {
     let verdict = index(&x.operand, &y.operand)?;
-    with_form(alloc, verdict, index_form(&x.operand), false)
+    let constness = x.constness.index(x.operand.verdict.kind(), y.constness);
+    with_form(alloc, verdict, index_form(&x.operand), constness)
 }
 
 fn called(
@@ -232,13 +230,13 @@ pub(crate) fn walked_call(
     xs: &[Operand],
 ) -> Result<Boxed<Walked>, AllocError>
     ensures operand { IfOk result (λ w. seen_operand w.operand ≡ spec.valued (spec.called (option_copied row.entry) (seen_operand f.now.operand) (seen_operands xs.now))) }
-    ensures size { IfOk result (λ w. w.is_size ≡ false) }
+    ensures constness { IfOk result (λ w. w.constness ≡ spec_constness.of_none) }
 {
     with_form(
         alloc,
         called(alloc, row, &f.operand, xs)?,
         Form::plain(),
-        false,
+        Constness::none(),
     )
 }
 
@@ -265,11 +263,11 @@ pub(crate) fn walked_name(
     as_callee: bool,
 ) -> Result<Boxed<Walked>, AllocError>
     ensures operand { IfOk result (λ w. seen_operand w.operand ≡ spec.named_operand (seen_environment env.now) name.now as_callee) }
-    ensures size { IfOk result (λ w. w.is_size ≡ sizes.is_constant (entity (seen_environment env.now) name.now)) }
+    ensures constness { IfOk result (λ w. w.constness ≡ spec_constness.of_name (entity (seen_environment env.now) name.now)) }
 {
     let operand = named_operand(alloc, env, name, as_callee)?;
-    let is_size = is_constant_name(env, name);
-    Ok(Boxed::new(alloc, Walked { operand, is_size })?)
+    let constness = Constness::name(env, name);
+    Ok(Boxed::new(alloc, Walked { operand, constness })?)
 }
 
 pub(crate) fn walked_dot(
@@ -279,10 +277,10 @@ pub(crate) fn walked_dot(
     member: &[u8],
 ) -> Result<Boxed<Walked>, AllocError>
     ensures operand { IfOk result (λ w. seen_operand w.operand ≡ spec.placed (access.dot (spec.member_kind (seen_environment env.now) member.now (kind (seen x.now.operand.verdict))) (seen_operand x.now.operand)) (form.dot_form x.now.operand.form)) }
-    ensures size { IfOk result (λ w. w.is_size ≡ false) }
+    ensures constness { IfOk result (λ w. w.constness ≡ spec_constness.of_dot x.now.constness) }
 {
     let of = member_kind(env, member, x.operand.verdict.kind());
-    with_form(alloc, dot(of, &x.operand)?, x.operand.form.dot(), false)
+    with_form(alloc, dot(of, &x.operand)?, x.operand.form.dot(), x.constness.dot())
 }
 
 pub(crate) fn walked_arrow(
@@ -292,36 +290,49 @@ pub(crate) fn walked_arrow(
     member: &[u8],
 ) -> Result<Boxed<Walked>, AllocError>
     ensures operand { IfOk result (λ w. seen_operand w.operand ≡ spec.placed (access.arrow (spec.pointed_member (seen_environment env.now) member.now (kind (seen x.now.operand.verdict))) (seen_operand x.now.operand)) form.arrow_form) }
-    ensures size { IfOk result (λ w. w.is_size ≡ false) }
+    ensures constness { IfOk result (λ w. w.constness ≡ spec_constness.of_none) }
 {
     let of = pointed_member(env, member, x.operand.verdict.kind());
-    with_form(alloc, arrow(of, &x.operand)?, Form::arrow(), false)
+    with_form(alloc, arrow(of, &x.operand)?, Form::arrow(), Constness::none())
 }
 
 pub(crate) fn walked_integer(alloc: Global, bytes: &[u8]) -> Result<Boxed<Walked>, AllocError>
     ensures operand { IfOk result (λ w. seen_operand w.operand ≡ spec.placed (names.integer bytes.now) (form.integer_form bytes.now)) }
-    ensures size { IfOk result (λ w. w.is_size ≡ true) }
+    ensures constness { IfOk result (λ w. w.constness ≡ spec_constness.of_constant) }
 {
-    with_form(alloc, integer(bytes), Form::integer(bytes), true)
+    with_form(alloc, integer(bytes), Form::integer(bytes), Constness::constant())
 }
 
 pub(crate) fn walked_character(alloc: Global) -> Result<Boxed<Walked>, AllocError>
     ensures operand { IfOk result (λ w. seen_operand w.operand ≡ spec.valued names.character) }
-    ensures size { IfOk result (λ w. w.is_size ≡ true) }
+    ensures constness { IfOk result (λ w. w.constness ≡ spec_constness.of_constant) }
 {
-    with_form(alloc, character(), Form::plain(), true)
+    with_form(alloc, character(), Form::plain(), Constness::constant())
 }
 
 pub(crate) fn walked_text(alloc: Global) -> Result<Boxed<Walked>, AllocError>
     ensures operand { IfOk result (λ w. seen_operand w.operand ≡ spec.placed names.text form.text_form) }
-    ensures size { IfOk result (λ w. w.is_size ≡ false) }
+    ensures constness { IfOk result (λ w. w.constness ≡ spec_constness.of_text) }
 {
-    with_form(alloc, text(alloc)?, Form::text(), false)
+    with_form(alloc, text(alloc)?, Form::text(), Constness::text())
 }
 
 pub(crate) fn walked_paren(alloc: Global, x: &Walked) -> Result<Boxed<Walked>, AllocError>
     ensures operand { IfOk result (λ w. seen_operand w.operand ≡ spec.placed (operators.paren (seen_operand x.now.operand)) (form.paren_form x.now.operand.form)) }
-    ensures size { IfOk result (λ w. w.is_size ≡ x.now.is_size) }
+    ensures constness { IfOk result (λ w. w.constness ≡ x.now.constness) }
 {
-    with_form(alloc, paren(&x.operand)?, x.operand.form.paren(), x.is_size)
+    with_form(alloc, paren(&x.operand)?, x.operand.form.paren(), x.constness)
+}
+
+/// The node of an expression that has been walked ends. Err where there is not enough memory.
+pub(crate) fn ended(
+    walked: Boxed<Walked>,
+    out: &mut Judgements,
+) -> Result<Boxed<Walked>, AllocError>
+    requires { 1 < length (shown out.old) }
+    ensures same { IfOk result (λ w. w ≡ walked) }
+    ensures all { OnOk result (shown out.new ≡ closed (seen_operand walked.operand).judged (shown out.old)) }
+{
+    out.end(&walked.get().operand.verdict)?;
+    Ok(walked)
 }

@@ -1,11 +1,10 @@
 //! The rules of declared names by what their parts give (C11 6.7).
 
-ghost use Rattle.std.specs.Prelude.{◌≡◌, ◌<◌, ◌&&◌, true, false, length, map, option_map, if◌then◌else◌, IfOk, OnOk};
+ghost use Rattle.std.specs.Prelude.{◌≡◌, ◌<◌, ◌&&◌, length, if◌then◌else◌, IfOk, OnOk};
 ghost use Rattle.c_judgements.specs.Parts.{closed};
 ghost use Rattle.c_kinds.specs.View.{view};
 ghost use Rattle.c_tree.specs.DeclaredNames.{declarator_name};
-ghost use Rattle.c_tree.specs.View as tree;
-ghost use Rattle.c_tree.specs.View.{view_expression, view_declarator};
+ghost use Rattle.c_tree.specs.View.{view_declarator};
 ghost use Rattle.c_environment.specs.Behind.{with_parameter};
 ghost use Rattle.c_environment.specs.Entity.{enumerator, with_member};
 ghost use Rattle.c_environment.specs.Environment.{with_entity};
@@ -14,13 +13,14 @@ ghost use Rattle.c_environment.specs.Types.{adjusted};
 ghost use Rattle.c_rules.specs.Conversions as conversions;
 ghost use Rattle.c_rules.specs.Judgement.{waits, is_settled};
 ghost use Rattle.c_rules.specs.Seen.{seen, seen_operand};
+ghost use Rattle.c_declared.specs.Constness.{of_cast, of_constant};
 ghost use Rattle.c_declared.specs.Ends.{member_judgement, parameter_judgement};
 ghost use Rattle.c_declared.specs.Faults.{no_faults};
 ghost use Rattle.c_declared.specs.Nodes as nodes;
 ghost use Rattle.c_declared.specs.Operands as spec;
 ghost use Rattle.c_declared.specs.Seen.{shown};
-ghost use Rattle.c_declared.specs.Sizes as sizes;
 
+use crate::constness::Constness;
 use crate::declared::{Declared, Part};
 use crate::faults::{Faults, both, object_faults, parameter_faults};
 use crate::judgements::Judgements;
@@ -29,7 +29,7 @@ use base_core::Lexeme;
 use c_environment::{DeclaredType, Entity, Environment, Members};
 use c_kinds::CType;
 use c_rules::{Form, MisfitKind, Verdict, cast, size_of_type};
-use c_tree::{Declarator, Expr};
+use c_tree::Declarator;
 use sqlite_items::Boxed;
 use std::alloc::{AllocError, Global};
 
@@ -82,18 +82,20 @@ pub(crate) fn walked_cast(
     x: &Walked,
 ) -> Result<Boxed<Walked>, AllocError>
     ensures operand { IfOk result (λ w. seen_operand w.operand ≡ spec.valued (if to.now.settled then nodes.type_rule to.now.faults (conversions.cast (seen_type to.now.of).kind (seen_operand x.now.operand)) else waits)) }
-    ensures size { IfOk result (λ w. w.is_size ≡ false) }
+    ensures constness { IfOk result (λ w. w.constness ≡ of_cast x.now.constness) }
 {
     let own = type_rule(to.faults, cast(&to.of.kind, &x.operand)?);
-    with_form(alloc, once(to.settled, own), Form::plain(), false)
+    let constness = x.constness.cast();
+    with_form(alloc, once(to.settled, own), Form::plain(), constness)
 }
 
 pub(crate) fn walked_size_of_type(alloc: Global, of: &Declared) -> Result<Boxed<Walked>, AllocError>
     ensures operand { IfOk result (λ w. seen_operand w.operand ≡ spec.valued (if of.now.settled then nodes.type_rule of.now.faults conversions.size_of_type else waits)) }
-    ensures size { IfOk result (λ w. w.is_size ≡ true) }
+    ensures constness { IfOk result (λ w. w.constness ≡ of_constant) }
 {
     let own = type_rule(of.faults, size_of_type());
-    with_form(alloc, once(of.settled, own), Form::plain(), true)
+    let constness = Constness::constant();
+    with_form(alloc, once(of.settled, own), Form::plain(), constness)
 }
 
 /// What is said of an enumerator with this value (C11 6.7.2.2).
@@ -104,53 +106,6 @@ pub(crate) fn enumerator_rule(env: &Environment, name: &[u8], value: Option<i32>
     let own = Verdict::Fits(CType::Int(32, true));
     let own = Verdict::unless(broken(value.is_none(), MisfitKind::NotConstant), own);
     Verdict::unless(broken(twice, MisfitKind::DeclaredTwice), own)
-}
-
-/// The sizes of a declarator are given.
-fn are_given(all: &[Option<Expr>]) -> bool
-    ensures { result ≡ sizes.are_given (tree.sizes_of (map (option_map view_expression) all.now)) }
-{
-    for size in all {
-        match size {
-            Some(_) => {}
-            None => return false,
-        }
-    }
-    true
-}
-
-fn are_given_behind_first(all: &[Option<Expr>]) -> bool
-    ensures { result ≡ sizes.are_given_behind_first (tree.sizes_of (map (option_map view_expression) all.now)) }
-{
-    match all {
-        [] => true,
-        [Some(_), more @ ..] => are_given(more),
-        [None, more @ ..] => are_given(more),
-    }
-}
-
-/// Whether all sizes of a declarator are given (C11 6.7.6.2p1).
-pub fn sizes_given(d: &Declarator) -> bool
-    ensures { result ≡ sizes.are_given (sizes.sizes_of (view_declarator d.now)) }
-{
-    match d {
-        Declarator::Array(_, _, all) | Declarator::Pointer(_, _, _, all, _) => {
-            are_given(all.as_slice())
-        }
-        Declarator::Plain(_, _) | Declarator::Function(_, _, _) => true,
-    }
-}
-
-/// The same of those behind the first.
-pub fn sizes_given_behind_first(d: &Declarator) -> bool
-    ensures { result ≡ sizes.are_given_behind_first (sizes.sizes_of (view_declarator d.now)) }
-{
-    match d {
-        Declarator::Array(_, _, all) | Declarator::Pointer(_, _, _, all, _) => {
-            are_given_behind_first(all.as_slice())
-        }
-        Declarator::Plain(_, _) | Declarator::Function(_, _, _) => true,
-    }
 }
 
 /// The name that a declarator declares.
@@ -177,8 +132,7 @@ fn member_rule(
 {
     let faults = object_faults(env, unknown, &by.of).and(by.faults);
     let is_twice = earlier.member(declared_name(d).as_bytes()).is_some();
-    let are_complete = sizes_given(d);
-    let own = declared_rule(faults, is_twice, by.are_sizes, are_complete, &by.of.kind)?;
+    let own = declared_rule(faults, is_twice, by.are_sizes, !by.of.is_open, &by.of.kind)?;
     Ok(once(by.settled, own))
 }
 
@@ -208,6 +162,7 @@ pub(crate) fn end_member<'a>(
     let DeclaredType {
         kind,
         is_function: _,
+        is_open: _,
         constant: _,
         volatile: _,
         atomic: _,
@@ -231,8 +186,7 @@ fn parameter_rule(
     let own = parameter_faults(env, unknown, of).and(by.faults);
     let faults = outside.faults.and(own);
     let is_twice = env.is_declared_here(declared_name(d).as_bytes());
-    let are_complete = sizes_given_behind_first(d);
-    let own = declared_rule(faults, is_twice, by.are_sizes, are_complete, &of.kind)?;
+    let own = declared_rule(faults, is_twice, by.are_sizes, !of.is_open, &of.kind)?;
     Ok(once(both(outside.settled, by.settled), own))
 }
 

@@ -8,7 +8,7 @@ use Rattle.c_tree.specs.DeclaredNames.{declarator_name}
 use Rattle.c_constants.specs.Constants as constants
 use Rattle.c_environment.specs.Entity as e
 use Rattle.c_environment.specs.Entity.{DeclaredType, Members, with_member}
-use Rattle.c_environment.specs.Environment.{Environment, value, tag, tag_here, entered, left, with_entity, with_variable, with_tag, with_optional_tag, with_structure, completed}
+use Rattle.c_environment.specs.Environment.{Environment, value, tag, tag_here, entered, left, with_entity, with_variable, with_tag, with_optional_tag, with_structure, completed, with_begun}
 use Rattle.c_environment.specs.Types.{structure_number, defined_structure, specified, pointed, arrayed, function_type, pointer_type, adjusted}
 
 -- ---- tags (6.7.2.3)
@@ -18,14 +18,18 @@ abbrev pub mentioned : Environment → Name → Option (Option ℕ) → Environm
 mentioned env n (Some what) = env
 mentioned env n None = with_tag (with_structure env false) n (Some (structure_number env None))
 
-abbrev pub opened_by : Environment → Name → Option (Option ℕ) → Environment
-opened_by env n (Some (Some k)) = env
-opened_by env n _ = with_tag (with_structure env true) n (Some (structure_number env None))
+abbrev pub tagged_by : Environment → Name → Option (Option ℕ) → Environment
+tagged_by env n (Some (Some k)) = env
+tagged_by env n _ = with_tag (with_structure env true) n (Some (structure_number env None))
 
--- before the members of a structure: its tag is declared in this block, where it isn't yet (p7)
+-- the tag of a structure with members is declared in this block, where it isn't yet (p7)
+abbrev pub tagged : Environment → Option Name → Environment
+tagged env None = with_structure env true
+tagged env (Some n) = tagged_by env n (tag_here env n)
+
+-- before the members of a structure, which begin here (p1)
 abbrev pub opened : Environment → Option Name → Environment
-opened env None = with_structure env true
-opened env (Some n) = opened_by env n (tag_here env n)
+opened env t = with_begun (tagged env t) (defined_structure env t)
 
 -- ---- parameters, of a function with a body or without
 

@@ -5,18 +5,20 @@ use Rattle.c_kinds.specs.Kind.{Kind}
 use Rattle.c_builtins.specs.declared.names.BuiltIn.{BuiltIn}
 use Rattle.c_scopes.specs.Scope.{Name, Scope, look_up, declare}
 
--- A type as a declaration gives it: its kind, which of a function type is that of pointers to it; whether it is a function type; whether
--- what is declared with it is const and volatile (6.7.3); and whether it is sig_atomic_t (7.14p2), under whatever name.
+-- A type as a declaration gives it: its kind, which of a function type is that of pointers to it; whether it is a function type; whether it is
+-- an array without a size, which is incomplete (6.2.5p22); whether what is declared with it is const and volatile (6.7.3); and whether it is
+-- sig_atomic_t (7.14p2), under whatever name.
 pub record DeclaredType : Type 0 where
   pub kind : Kind
   pub is_function : Bool
+  pub is_open : Bool
   pub constant : Bool
   pub volatile : Bool
   pub atomic : Bool
 
 -- a type without qualifiers that is no function type
 abbrev pub simple : Kind → DeclaredType
-simple k = record { kind = k; is_function = false; constant = false; volatile = false; atomic = false }
+simple k = record { kind = k; is_function = false; is_open = false; constant = false; volatile = false; atomic = false }
 
 -- A variable: its number among the variables; its type; the number of the function in which it is first declared; whether it has static
 -- storage duration (6.2.4p3); whether it has linkage (6.2.2).
@@ -53,9 +55,17 @@ with_member ms n k = record { names = declare n (length ms.kinds) ms.names; kind
 abbrev pub member : Members → Name → Option Kind
 member ms n = option_and_then (λ i. slice_get ms.kinds i) (look_up ms.names n)
 
--- A structure: its members; whether they are known, so that it is complete (6.7.2.1p8); whether its tag is declared, and not mentioned
--- alone.
+-- the place of a member among them, and the kind of the one at a place
+abbrev pub member_place : Members → Name → Option ℕ
+member_place ms n = look_up ms.names n
+
+abbrev pub member_at : Members → ℕ → Option Kind
+member_at ms i = slice_get ms.kinds i
+
+-- A structure: its members; whether they have begun (6.7.2.3p1), and whether they are known, so that it is complete (6.7.2.1p8); whether its
+-- tag is declared, and not mentioned alone.
 pub record Structure : Type 0 where
   pub members : Members
+  pub begun : Bool
   pub complete : Bool
   pub declared : Bool

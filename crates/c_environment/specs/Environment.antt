@@ -38,6 +38,14 @@ number env n = or_else (look_up env.names n) (look_up env.implementation n)
 abbrev pub entity : Environment → Name → Option Entity
 entity env n = option_and_then (λ i. slice_get env.entities i) (number env n)
 
+-- what the innermost block has declared the name as
+abbrev pub entity_here : Environment → Name → Option Entity
+entity_here env n = option_and_then (λ i. slice_get env.entities i) (declared_here env.names n)
+
+-- the object or function with linkage of this name (6.2.2p2)
+abbrev pub linked_entity : Environment → Name → Option Entity
+linked_entity env n = option_and_then (λ i. slice_get env.entities i) (look_up env.linked n)
+
 -- the innermost block has declared the name
 abbrev pub is_declared_here : Environment → Name → Bool
 is_declared_here env n = is_some (declared_here env.names n)
@@ -176,11 +184,11 @@ with_optional_tag env (Some n) what = with_tag env n what
 
 -- a structure more, whose members aren't known
 abbrev pub with_structure : Environment → Bool → Environment
-with_structure env is_declared = record env { structures = env.structures ++ (record { members = no_members; complete = false; declared = is_declared }) ∷ [] }
+with_structure env is_declared = record env { structures = env.structures ++ (record { members = no_members; begun = false; complete = false; declared = is_declared }) ∷ [] }
 
 -- the members of a structure are known from here on
 abbrev pub completed : Environment → ℕ → Members → Environment
-completed env k ms = record env { structures = set env.structures k (record { members = ms; complete = true; declared = true }) }
+completed env k ms = record env { structures = set env.structures k (record { members = ms; begun = true; complete = true; declared = true }) }
 
 -- a structure's tag is declared, and not mentioned alone, from here on
 abbrev pub marked : Structure → Structure
@@ -192,3 +200,14 @@ marked_at env k (Some s) = record env { structures = set env.structures k (marke
 
 abbrev pub with_declared : Environment → ℕ → Environment
 with_declared env k = marked_at env k (structure env k)
+
+-- a structure's members begin here (p1)
+abbrev pub beginning : Structure → Structure
+beginning s = record s { begun = true }
+
+abbrev pub beginning_at : Environment → ℕ → Option Structure → Environment
+beginning_at env k None = env
+beginning_at env k (Some s) = record env { structures = set env.structures k (beginning s) }
+
+abbrev pub with_begun : Environment → ℕ → Environment
+with_begun env k = beginning_at env k (structure env k)

@@ -1,5 +1,5 @@
 -- What the names stand for behind initialisers, declarations, statements and items (C11 6.2.1).
-use Rattle.std.specs.Prelude.{ℕ, List, [], ◌∷◌, Option, Some, None, Bool, true, false, if◌then◌else◌}
+use Rattle.std.specs.Prelude.{ℕ, List, [], ◌∷◌, Option, Some, None, Bool, true, false, not, ◌&&◌, ◌||◌, if◌then◌else◌}
 use Rattle.c_scopes.specs.Scope.{Name}
 use Rattle.c_tree.specs.declared.tree.Storage.{Storage}
 use Rattle.c_tree.specs.declared.tree.Storage.TheVariants as st
@@ -44,16 +44,29 @@ abbrev pub with_name : Environment → Storage → Name → DeclaredType → Env
 with_name env st.Typedef n t = with_entity env n (e.type_name t)
 with_name env storage n t = with_ordinary env t.is_function storage n t
 
--- where a name of the file's scope is initialised
-abbrev pub initialised_by : Environment → Name → Option Initializer → Environment
-initialised_by env n None = env
-initialised_by env n (Some i) = if at_file_scope env then with_initialised env n else env
+-- functions, names of the file's scope, and those declared with `extern` have linkage, types' names have none (6.2.2p4 to p6)
+abbrev pub is_extern : Storage → Bool
+is_extern st.Extern = true
+is_extern _ = false
+
+abbrev pub is_typedef : Storage → Bool
+is_typedef st.Typedef = true
+is_typedef _ = false
+
+abbrev pub has_linkage : Environment → Storage → Bool → Bool
+has_linkage env storage is_function = not (is_typedef storage) && (is_function || at_file_scope env || is_extern storage)
+
+-- an initialiser defines an object with linkage, wherever the declaration stands (6.9p5)
+abbrev pub initialised_by : Environment → Bool → Name → Option Initializer → Environment
+initialised_by env linked n None = env
+initialised_by env linked n (Some i) = if linked then with_initialised env n else env
 
 -- behind a declared name: its declarator, and its initialiser, in which it is in scope
 abbrev pub behind_named : Environment → Storage → DeclaredType → NamedTree → Environment
 behind_named env storage t n =
     behind_optional_initializer
-    (initialised_by (with_name (behind_declarator env n.declarator) storage (declarator_name n.declarator) (declared env t n.declarator)) (declarator_name n.declarator) n.init)
+    (initialised_by (with_name (behind_declarator env n.declarator) storage (declarator_name n.declarator) (declared env t n.declarator))
+    (has_linkage env storage (declared env t n.declarator).is_function) (declarator_name n.declarator) n.init)
     n.init
 
 abbrev pub behind_names : Environment → Storage → DeclaredType → List NamedTree → Environment

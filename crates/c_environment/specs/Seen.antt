@@ -12,7 +12,7 @@ use Rattle.c_environment.specs.declared.members.Structure.{Structure}
 use Rattle.c_environment.specs.declared.environment.Environment.{Environment}
 
 abbrev pub seen_type : DeclaredType → e.DeclaredType
-seen_type t = record { kind = view t.kind; is_function = t.is_function; constant = t.constant; volatile = t.volatile; atomic = t.atomic }
+seen_type t = record { kind = view t.kind; is_function = t.is_function; is_open = t.is_open; constant = t.constant; volatile = t.volatile; atomic = t.atomic }
 
 abbrev pub seen_variable : Variable → e.Variable
 seen_variable x = record { number = x.number; of = seen_type x.of; owner = x.owner; lasting = x.lasting; linked = x.linked }
@@ -30,7 +30,7 @@ abbrev pub seen_members : Members → e.Members
 seen_members ms = record { names = ms.names; kinds = map view ms.kinds.items }
 
 abbrev pub seen_structure : Structure → e.Structure
-seen_structure s = record { members = seen_members s.members; complete = s.complete; declared = s.declared }
+seen_structure s = record { members = seen_members s.members; begun = s.begun; complete = s.complete; declared = s.declared }
 
 abbrev pub seen_environment : Environment → plain.Environment
 seen_environment x = record {

@@ -34,7 +34,7 @@ built_in_kind t.Handler = handler
 built_in_kind t.Action = action
 
 abbrev pub built_in_type : Name × BuiltInType → Entity
-built_in_type p = e.type_name (record { kind = built_in_kind p.1; is_function = false; constant = false; volatile = false; atomic = bytes_eq p.0 (codes "sig_atomic_t") })
+built_in_type p = e.type_name (record { kind = built_in_kind p.1; is_function = false; is_open = false; constant = false; volatile = false; atomic = bytes_eq p.0 (codes "sig_atomic_t") })
 
 -- names for the things from this number on, one after the other
 abbrev pub numbered : ℕ → List Name → Scope → Scope
@@ -57,7 +57,7 @@ members_of ms [] = ms
 members_of ms (p ∷ ps) = members_of (with_member ms p.0 (built_in_kind p.1)) ps
 
 abbrev pub built_in_structure : List (Name × BuiltInType) → Structure
-built_in_structure ps = record { members = members_of no_members ps; complete = true; declared = true }
+built_in_structure ps = record { members = members_of no_members ps; begun = true; complete = true; declared = true }
 
 abbrev pub structure_tags : ℕ → List Name → List (Option ℕ)
 structure_tags i [] = []

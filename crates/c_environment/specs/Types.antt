@@ -111,7 +111,7 @@ pointed_kind t = if t.is_function then t.kind else kinds.pointer t.kind
 
 -- a pointer with these qualifiers
 abbrev pub pointer_to : Quals → DeclaredType → DeclaredType
-pointer_to qs t = record { kind = pointed_kind t; is_function = false; constant = has_const qs; volatile = has_volatile qs; atomic = false }
+pointer_to qs t = record { kind = pointed_kind t; is_function = false; is_open = false; constant = has_const qs; volatile = has_volatile qs; atomic = false }
 
 abbrev pub pointed : Stars → DeclaredType → DeclaredType
 pointed [] t = t
@@ -127,20 +127,25 @@ abbrev pub has_sizes : Sizes → Bool
 has_sizes no_sizes = false
 has_sizes _ = true
 
+-- the outermost array has no size (6.7.6.2p4)
+abbrev pub begins_open : Sizes → Bool
+begins_open (open_size xs) = true
+begins_open _ = false
+
 abbrev pub arrayed : Sizes → DeclaredType → DeclaredType
 arrayed no_sizes t = t
-arrayed xs t = record t { kind = array_kind xs t.kind; atomic = false }
+arrayed xs t = record t { kind = array_kind xs t.kind; is_open = begins_open xs; atomic = false }
 
 -- a function of these parameters (6.7.6.3)
 abbrev pub function_kind : List Kind → DeclaredType → Kind
 function_kind ks t = kinds.function ks t.kind
 
 abbrev pub function_type : List Kind → DeclaredType → DeclaredType
-function_type ks t = record { kind = function_kind ks t; is_function = true; constant = false; volatile = false; atomic = false }
+function_type ks t = record { kind = function_kind ks t; is_function = true; is_open = false; constant = false; volatile = false; atomic = false }
 
 -- a pointer to one, or an array of them
 abbrev pub pointer_type : Quals → Sizes → List Kind → DeclaredType → DeclaredType
-pointer_type qs xs ks t = arrayed xs (record { kind = function_kind ks t; is_function = false; constant = has_const qs; volatile = has_volatile qs; atomic = false })
+pointer_type qs xs ks t = arrayed xs (record { kind = function_kind ks t; is_function = false; is_open = false; constant = has_const qs; volatile = has_volatile qs; atomic = false })
 
 abbrev pub adjusted_by : DeclaredType → Kind → DeclaredType
 adjusted_by t (kinds.array k) = simple (kinds.pointer k)

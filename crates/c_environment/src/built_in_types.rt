@@ -56,6 +56,7 @@ pub(crate) fn built_in_type(alloc: Global, of: &TypeName) -> Result<Entity, Allo
     Ok(Entity::TypeName(DeclaredType {
         kind: built_in_kind(alloc, of.names)?,
         is_function: false,
+        is_open: false,
         constant: false,
         volatile: false,
         atomic: of.name == b"sig_atomic_t".as_slice(),

@@ -180,6 +180,7 @@ impl<'a> Environment<'a> {
         let members = Members::new(self.alloc);
         self.structures.push(Structure {
             members,
+            begun: false,
             complete: false,
             declared,
         })?;
@@ -194,6 +195,7 @@ impl<'a> Environment<'a> {
         if place < self.structures.len() {
             self.structures[place] = Structure {
                 members,
+                begun: true,
                 complete: true,
                 declared: true,
             };
@@ -207,6 +209,16 @@ impl<'a> Environment<'a> {
         let place = number as usize;
         if place < self.structures.len() {
             self.structures[place].declared = true;
+        }
+    }
+
+    /// The members of the structure of this number begin here (C11 6.7.2.3p1).
+    pub(crate) fn with_begun(&mut self, number: u32)
+        ensures { seen_environment self.new ≡ plain.with_begun (seen_environment self.old) number }
+    {
+        let place = number as usize;
+        if place < self.structures.len() {
+            self.structures[place].begun = true;
         }
     }
 }

@@ -14,6 +14,8 @@ pub struct DeclaredType {
     pub kind: CType,
     /// Whether it is a function type.
     pub is_function: bool,
+    /// Whether it is an array without a size, which is incomplete (C11 6.2.5p22).
+    pub is_open: bool,
     /// Whether what is declared with it is const (C11 6.7.3).
     pub constant: bool,
     /// Whether it is volatile.
@@ -30,6 +32,7 @@ impl DeclaredType {
         DeclaredType {
             kind,
             is_function: false,
+            is_open: false,
             constant: false,
             volatile: false,
             atomic: false,
@@ -43,6 +46,7 @@ impl DeclaredType {
         Ok(DeclaredType {
             kind: self.kind.share()?,
             is_function: self.is_function,
+            is_open: self.is_open,
             constant: self.constant,
             volatile: self.volatile,
             atomic: self.atomic,

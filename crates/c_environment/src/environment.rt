@@ -62,6 +62,26 @@ impl<'a> Environment<'a> {
         }
     }
 
+    /// What the innermost block has declared the name as.
+    pub fn entity_here(&self, name: &[u8]) -> Option<&Entity>
+        ensures { option_map (λ e. seen_entity e.now) result ≡ plain.entity_here (seen_environment self.now) name.now }
+    {
+        match self.names.declared_here(name) {
+            Some(number) => self.entities.get(number as usize),
+            None => None,
+        }
+    }
+
+    /// The object or function with linkage of this name (C11 6.2.2p2).
+    pub fn linked_entity(&self, name: &[u8]) -> Option<&Entity>
+        ensures { option_map (λ e. seen_entity e.now) result ≡ plain.linked_entity (seen_environment self.now) name.now }
+    {
+        match self.linked.look_up(name) {
+            Some(number) => self.entities.get(number as usize),
+            None => None,
+        }
+    }
+
     /// Whether the innermost block has declared the name.
     pub fn is_declared_here(&self, name: &[u8]) -> bool
         ensures { result ≡ plain.is_declared_here (seen_environment self.now) name.now }

@@ -38,6 +38,20 @@ impl<'a> Members<'a> {
         self.names.declare(name, place as u32)
     }
 
+    /// The place of the member of this name.
+    pub fn place(&self, name: &[u8]) -> Option<u32>
+        ensures { result ≡ plain.member_place (seen_members self.now) name.now }
+    {
+        self.names.look_up(name)
+    }
+
+    /// The kind of the member at this place.
+    pub fn at(&self, place: usize) -> Option<&CType>
+        ensures { option_map (λ t. view t.now) result ≡ plain.member_at (seen_members self.now) place }
+    {
+        self.kinds.get(place)
+    }
+
     /// The kind of the member of this name.
     pub fn member(&self, name: &[u8]) -> Option<&CType>
         ensures { option_map (λ t. view t.now) result ≡ plain.member (seen_members self.now) name.now }
@@ -53,6 +67,8 @@ impl<'a> Members<'a> {
 #[derive(Drop)]
 pub struct Structure<'a> {
     pub members: Members<'a>,
+    /// Whether the members have begun (C11 6.7.2.3p1).
+    pub begun: bool,
     /// Whether the members are known, so that it is complete (C11 6.7.2.1p8).
     pub complete: bool,
     /// Whether its tag is declared, and not mentioned alone.

@@ -118,6 +118,7 @@ impl<'a> Environment<'a> {
         let members = built_in_members(self.alloc, all)?;
         self.structures.push(Structure {
             members,
+            begun: true,
             complete: true,
             declared: true,
         })?;

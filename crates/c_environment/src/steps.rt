@@ -60,9 +60,9 @@ impl<'a> Environment<'a> {
         }
     }
 
-    /// Before the members of a structure, whose tag is known in this block as this.
-    fn opened_by(&mut self, name: &'a [u8], known: Option<Option<u32>>) -> Result<(), AllocError>
-        ensures { OnOk result (seen_environment self.new ≡ behind.opened_by (seen_environment self.old) name.now known) }
+    /// Behind the tag of a structure with members, which is known in this block as this.
+    fn tagged_by(&mut self, name: &'a [u8], known: Option<Option<u32>>) -> Result<(), AllocError>
+        ensures { OnOk result (seen_environment self.new ≡ behind.tagged_by (seen_environment self.old) name.now known) }
     {
         match known {
             Some(Some(_)) => Ok(()),
@@ -70,17 +70,27 @@ impl<'a> Environment<'a> {
         }
     }
 
-    /// Before the members of a structure: its tag is declared in this block, where it isn't yet (C11 6.7.2.3p7).
-    pub fn opened(&mut self, tag: &'a Option<Lexeme>) -> Result<(), AllocError>
-        ensures { OnOk result (seen_environment self.new ≡ behind.opened (seen_environment self.old) tag.now) }
+    /// The tag of a structure with members is declared in this block, where it isn't yet (C11 6.7.2.3p7).
+    fn tagged(&mut self, tag: &'a Option<Lexeme>) -> Result<(), AllocError>
+        ensures { OnOk result (seen_environment self.new ≡ behind.tagged (seen_environment self.old) tag.now) }
     {
         match tag {
             Some(name) => {
                 let known = self.tag_here(name.as_bytes());
-                self.opened_by(name.as_bytes(), known)
+                self.tagged_by(name.as_bytes(), known)
             }
             None => self.with_structure(true),
         }
+    }
+
+    /// Before the members of a structure, which begin here (C11 6.7.2.3p1).
+    pub fn opened(&mut self, tag: &'a Option<Lexeme>) -> Result<(), AllocError>
+        ensures { OnOk result (seen_environment self.new ≡ behind.opened (seen_environment self.old) tag.now) }
+    {
+        let number = self.defined_structure(tag)?;
+        self.tagged(tag)?;
+        self.with_begun(number);
+        Ok(())
     }
 
     /// From here on the name stands for a parameter, of a function with a body or without (C11 6.2.1p4).

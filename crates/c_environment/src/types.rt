@@ -24,6 +24,17 @@ fn array_kind(alloc: Global, sizes: &[Option<Expr>], of: CType) -> Result<CType,
     Ok(kind)
 }
 
+/// Whether the outermost array has no size.
+fn begins_open(sizes: &[Option<Expr>]) -> bool
+    ensures { result ≡ plain.begins_open (sizes_of (map (option_map view_expression) sizes.now)) }
+{
+    match sizes {
+        [] => false,
+        [Some(_), _more @ ..] => false,
+        [None, _more @ ..] => true,
+    }
+}
+
 impl DeclaredType {
     /// It with these qualifiers besides its own (C11 6.7.3p5).
     pub(crate) fn qualified(self, constant: bool, volatile: bool) -> Self
@@ -32,6 +43,7 @@ impl DeclaredType {
         DeclaredType {
             kind: self.kind,
             is_function: self.is_function,
+            is_open: self.is_open,
             constant: constant || self.constant,
             volatile: volatile || self.volatile,
             atomic: self.atomic,
@@ -58,6 +70,7 @@ impl DeclaredType {
         Ok(DeclaredType {
             kind: self.pointed_kind(alloc)?,
             is_function: false,
+            is_open: false,
             constant,
             volatile,
             atomic: false,
@@ -83,6 +96,7 @@ impl DeclaredType {
             [] => Ok(self),
             [_first, _more @ ..] => Ok(DeclaredType {
                 is_function: self.is_function,
+                is_open: begins_open(sizes),
                 constant: self.constant,
                 volatile: self.volatile,
                 kind: array_kind(alloc, sizes, self.kind)?,
@@ -98,6 +112,7 @@ impl DeclaredType {
         Ok(DeclaredType {
             kind: CType::function(alloc, parameters, self.kind)?,
             is_function: true,
+            is_open: false,
             constant: false,
             volatile: false,
             atomic: false,
@@ -117,6 +132,7 @@ impl DeclaredType {
         let pointer = DeclaredType {
             kind: CType::function(alloc, parameters, self.kind)?,
             is_function: false,
+            is_open: false,
             constant: has_const(quals),
             volatile: has_volatile(quals),
             atomic: false,

@@ -1,19 +1,18 @@
 -- What is said of the nodes of declarations (C11 6.7).
-use Rattle.std.specs.Prelude.{ℕ, List, [], ◌∷◌, Option, Some, None, Bool, true, false, not, ◌&&◌, ◌||◌, is_some, if◌then◌else◌, slice_get}
+use Rattle.std.specs.Prelude.{ℕ, List, [], ◌∷◌, Option, Some, None, Bool, true, false, not, ◌&&◌, ◌||◌, is_some, if◌then◌else◌}
 use Rattle.std.specs.Option.{option_and_then}
 use Rattle.c_kinds.specs.Kind.{Kind}
 use Rattle.c_kinds.specs.Matching.{agrees}
-use Rattle.c_scopes.specs.Scope.{look_up, declared_here}
 use Rattle.c_tree.specs.declared.tree.Storage.{Storage}
 use Rattle.c_tree.specs.declared.tree.Storage.TheVariants as st
-use Rattle.c_tree.specs.Tree.{Name, Specifiers, no_specifiers, specifiers, struct_tag, Sizes, DeclaratorTree, function, Initializer, single, listed, NamedTree, DeclarationTree}
+use Rattle.c_tree.specs.Tree.{Name, Specifiers, no_specifiers, specifiers, struct_tag, DeclaratorTree, function, Initializer, single, listed, NamedTree, DeclarationTree}
 use Rattle.c_tree.specs.DeclaredNames.{declarator_name}
 use Rattle.c_environment.specs.Entity as e
 use Rattle.c_environment.specs.Entity.{DeclaredType, Entity, variable}
-use Rattle.c_environment.specs.Environment.{Environment, is_reserved, is_initialised, at_file_scope, tag_here}
+use Rattle.c_environment.specs.Environment.{Environment, entity_here, linked_entity, is_reserved, is_initialised, at_file_scope, tag_here}
 use Rattle.c_environment.specs.Types.{specified}
 use Rattle.c_environment.specs.Behind.{behind_specifiers, behind_declarator, declared}
-use Rattle.c_environment.specs.Scopes.{with_name, behind_named}
+use Rattle.c_environment.specs.Scopes.{is_extern, is_typedef, has_linkage, with_name, behind_named}
 use Rattle.c_rules.specs.declared.misfit.MisfitKind.{MisfitKind}
 use Rattle.c_rules.specs.declared.misfit.MisfitKind.TheVariants.{UnknownName, DeclaredTwice, NotConstant, LeftOut, KindMismatch}
 use Rattle.c_rules.specs.Judgement.{Judgement, fits, silent, unless}
@@ -22,7 +21,7 @@ use Rattle.c_declared.specs.Said.{Said, nothing, both, node, formless, once}
 use Rattle.c_declared.specs.Operands.{Rows}
 use Rattle.c_declared.specs.declared.faults.Faults.{Faults}
 use Rattle.c_declared.specs.Faults.{faults_of_both, faults_specifiers, faults_declarator, object_faults, is_own, names_enumeration, repeated_if}
-use Rattle.c_declared.specs.Sizes.{are_sizes, sizes_of, are_given, are_given_behind_first}
+use Rattle.c_declared.specs.Sizes.{are_sizes, sizes_of}
 use Rattle.c_declared.specs.Nodes.{operand, said_specifiers, said_declarator, broken}
 use Rattle.c_judged.specs.Initializers.{is_static_initializer, said_initializer}
 
@@ -34,36 +33,17 @@ may_stand_again is_function (e.function t) = is_function
 may_stand_again is_function (variable v) = not is_function && v.linked
 may_stand_again is_function _ = false
 
-abbrev pub entity_at : Environment → Option ℕ → Option Entity
-entity_at env i = option_and_then (λ j. slice_get env.entities j) i
-
 -- in this block the name stands for something else already
 abbrev pub clashes_with : Bool → Bool → Option Entity → Bool
 clashes_with has_linkage is_function None = false
 clashes_with has_linkage is_function (Some x) = not (has_linkage && may_stand_again is_function x)
 
 abbrev pub clashes_here : Environment → Bool → Bool → Name → Bool
-clashes_here env has_linkage is_function n = clashes_with has_linkage is_function (entity_at env (declared_here env.names n))
+clashes_here env has_linkage is_function n = clashes_with has_linkage is_function (entity_here env n)
 
 -- a name of the file's scope is none of the implementation's
 abbrev pub is_taken : Environment → Bool → Bool → Name → Bool
 is_taken env has_linkage is_function n = (at_file_scope env && is_reserved env n) || clashes_here env has_linkage is_function n
-
--- functions, names of the file's scope, and those declared with `extern` (6.2.2p4, p5)
-abbrev pub is_extern : Storage → Bool
-is_extern st.Extern = true
-is_extern _ = false
-
-abbrev pub is_typedef : Storage → Bool
-is_typedef st.Typedef = true
-is_typedef _ = false
-
-abbrev pub is_static : Storage → Bool
-is_static st.Static = true
-is_static _ = false
-
-abbrev pub has_linkage : Environment → Storage → Bool → Bool
-has_linkage env storage is_function = not (is_typedef storage) && (is_function || at_file_scope env || is_extern storage)
 
 -- the object or function of this name has had another type
 abbrev pub kind_of : Entity → Option Kind
@@ -76,16 +56,14 @@ differs_from k None = false
 differs_from k (Some k') = not (agrees k' k)
 
 abbrev pub differs : Environment → Name → Kind → Bool
-differs env n k = differs_from k (option_and_then kind_of (entity_at env (look_up env.linked n)))
+differs env n k = differs_from k (option_and_then kind_of (linked_entity env n))
 
 -- ---- a declared name
 
--- An object's array has a size, unless it is initialised, which gives it one (6.7.9p22), or declared with `extern`.
+-- An object's array has a size, unless it is initialised, which gives it one (6.7.9p22), or declared with `extern`; a type's name may be one of
+-- an array without a size.
 abbrev pub may_be_open : Storage → Option Initializer → Bool
-may_be_open storage i = is_some i || is_extern storage
-
-abbrev pub are_complete : Bool → Sizes → Bool
-are_complete may_open xs = if may_open then are_given_behind_first xs else are_given xs
+may_be_open storage i = is_some i || is_extern storage || is_typedef storage
 
 abbrev pub mismatched : Rows → Environment → Kind → Option Initializer → Option MisfitKind
 mismatched rows env k None = None
@@ -103,12 +81,16 @@ named_faults env storage ws t d =
     if is_function_form d then faults_declarator env t d else faults_of_both (object_faults env (behind_declarator env d) ws (is_own d) (declared env t d)) (faults_declarator env t d)
 
 -- it is initialised as an object of static storage duration
+abbrev pub is_static : Storage → Bool
+is_static st.Static = true
+is_static _ = false
+
 abbrev pub is_lasting : Environment → Storage → Bool
 is_lasting env storage = at_file_scope env || is_static storage || is_extern storage
 
-abbrev pub is_not_constant : Environment → Storage → Option Initializer → Bool
-is_not_constant env storage None = false
-is_not_constant env storage (Some i) = is_lasting env storage && not (is_static_initializer env i)
+abbrev pub is_not_constant : Rows → Environment → Storage → Option Initializer → Bool
+is_not_constant rows env storage None = false
+is_not_constant rows env storage (Some i) = is_lasting env storage && not (is_static_initializer rows env i)
 
 abbrev pub is_initialised_again : Environment → Bool → Name → Option Initializer → Bool
 is_initialised_again env linked n None = false
@@ -125,11 +107,10 @@ named_rule rows env inner storage ws t n =
     (unless (broken (has_linkage env storage (declared env t n.declarator).is_function && differs env (declarator_name n.declarator) (declared env t n.declarator).kind) KindMismatch)
     (unless (broken (named_faults env storage ws t n.declarator).repeated DeclaredTwice)
     (unless (broken (named_faults env storage ws t n.declarator).passed LeftOut)
-    (unless (broken (not (are_sizes env (sizes_of n.declarator)) || is_not_constant inner storage n.init) NotConstant)
+    (unless (broken (not (are_sizes env (sizes_of n.declarator)) || is_not_constant rows inner storage n.init) NotConstant)
     (unless (mismatched rows inner (declared env t n.declarator).kind n.init)
     (unless (broken
-    ((named_faults env storage ws t n.declarator).incomplete
-    || not (is_typedef storage || are_complete (may_be_open storage n.init) (sizes_of n.declarator)))
+    ((named_faults env storage ws t n.declarator).incomplete || ((declared env t n.declarator).is_open && not (may_be_open storage n.init)))
     KindMismatch)
     (fits (declared env t n.declarator).kind))))))))
 

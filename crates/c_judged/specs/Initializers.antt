@@ -1,14 +1,11 @@
 -- What is said of the nodes of initialisers (C11 6.7.9), for an object of a kind, where that is known.
-use Rattle.std.specs.Prelude.{ℕ, suc, Option, Some, None, Bool, true, false, ◌&&◌, ◌||◌, ◌==◌, is_none, slice_get, if◌then◌else◌}
+use Rattle.std.specs.Prelude.{ℕ, suc, Option, Some, None, Bool, true, false, ◌&&◌, ◌||◌, ◌==◌, is_none, if◌then◌else◌}
 use Rattle.std.specs.Option.{option_and_then}
 use Rattle.c_kinds.specs.Kind.{Kind, array, structure}
-use Rattle.c_scopes.specs.Scope.{look_up}
-use Rattle.c_tree.specs.declared.tree.UnaryOp.TheVariants as u
-use Rattle.c_tree.specs.Tree.{Name, Expression, choose, binary, cast, unary, size_of, size_of_type, index, dot, name, integer, character, text, paren, Initializer, single, listed, Initializers, no_initializers, initializers}
-use Rattle.c_builtins.specs.declared.names.BuiltIn.TheVariants as b
-use Rattle.c_environment.specs.Entity.{Entity, variable, function, enumerator, built_in, Members, no_members, Structure}
-use Rattle.c_environment.specs.Environment.{Environment, entity, structure as structure_at}
-use Rattle.c_environment.specs.Behind.{behind_expression, behind_type}
+use Rattle.c_tree.specs.Tree.{Name, Initializer, single, listed, Initializers, no_initializers, initializers}
+use Rattle.c_environment.specs.Entity as e
+use Rattle.c_environment.specs.Entity.{Members, no_members, Structure, member_at}
+use Rattle.c_environment.specs.Environment.{Environment, structure as structure_at}
 use Rattle.c_environment.specs.Scopes.{behind_initializer}
 use Rattle.c_rules.specs.declared.misfit.MisfitKind.{MisfitKind}
 use Rattle.c_rules.specs.declared.misfit.MisfitKind.TheVariants.{UnknownName, KindMismatch}
@@ -20,62 +17,18 @@ use Rattle.c_rules.specs.Declarations.{list_misfit, positional_misfit}
 use Rattle.c_declared.specs.Said.{Said, nothing, both, formless, once}
 use Rattle.c_declared.specs.Operands.{Rows}
 use Rattle.c_declared.specs.Nodes.{operand, said}
-use Rattle.c_declared.specs.Sizes.{is_arithmetic, may_be_size}
+use Rattle.c_declared.specs.StaticConstants.{may_be_static}
 
--- ---- initialisers of objects with static storage duration (6.7.9p4, 6.6p7 to p9)
-
-abbrev pub is_array : Kind → Bool
-is_array (array k) = true
-is_array _ = false
-
-abbrev pub is_constant_entity : Option Entity → Bool
-is_constant_entity (Some (enumerator v)) = true
-is_constant_entity (Some (built_in b.Errno)) = false
-is_constant_entity (Some (built_in b.LeftOut)) = false
-is_constant_entity (Some (built_in x)) = true
-is_constant_entity (Some (function t)) = true
-is_constant_entity (Some (variable v)) = v.lasting && is_array v.of.kind
-is_constant_entity _ = false
-
-abbrev pub is_lasting_entity : Option Entity → Bool
-is_lasting_entity (Some (variable v)) = v.lasting
-is_lasting_entity (Some (function t)) = true
-is_lasting_entity _ = false
-
--- the place of an object of static storage duration: a name, a string, a member, or an element by a constant index of an array
-abbrev pub is_lasting_place : Environment → Expression → Bool
-is_lasting_place env (name n) = is_lasting_entity (entity env n)
-is_lasting_place env (text ts) = true
-is_lasting_place env (paren x) = is_lasting_place env x
-is_lasting_place env (dot x m) = is_lasting_place env x
-is_lasting_place env (index x y) = is_lasting_place env x && may_be_size (behind_expression env x) y
-is_lasting_place env _ = false
-
--- made of constants, addresses of such objects, names of such arrays and of functions, operators and casts
-abbrev pub may_be_static : Environment → Expression → Bool
-may_be_static env (name n) = is_constant_entity (entity env n)
-may_be_static env (integer z) = true
-may_be_static env (character c) = true
-may_be_static env (text ts) = true
-may_be_static env (size_of x) = true
-may_be_static env (size_of_type t) = true
-may_be_static env (paren x) = may_be_static env x
-may_be_static env (unary u.Address x) = is_lasting_place env x
-may_be_static env (unary o x) = is_arithmetic o && may_be_static env x
-may_be_static env (binary o x y) = may_be_static env x && may_be_static (behind_expression env x) y
-may_be_static env (choose w x y) =
-    may_be_static env w && may_be_static (behind_expression env w) x && may_be_static (behind_expression (behind_expression env w) x) y
-may_be_static env (cast t x) = may_be_static (behind_type env t) x
-may_be_static env _ = false
+-- ---- initialisers of objects with static storage duration (6.7.9p4)
 
 abbrev mutual
-  pub is_static_initializer : Environment → Initializer → Bool
-  is_static_initializer env (single x) = may_be_static env x
-  is_static_initializer env (listed ps last) = are_static_initializers env ps
+  pub is_static_initializer : Rows → Environment → Initializer → Bool
+  is_static_initializer rows env (single x) = may_be_static rows env x
+  is_static_initializer rows env (listed ps last) = are_static_initializers rows env ps
 
-  pub are_static_initializers : Environment → Initializers → Bool
-  are_static_initializers env no_initializers = true
-  are_static_initializers env (initializers n i ps) = is_static_initializer env i && are_static_initializers (behind_initializer env i) ps
+  pub are_static_initializers : Rows → Environment → Initializers → Bool
+  are_static_initializers rows env no_initializers = true
+  are_static_initializers rows env (initializers n i ps) = is_static_initializer rows env i && are_static_initializers rows (behind_initializer env i) ps
 
 -- ---- the parts of a list (6.7.9p17, p18, p20): each fills the element behind that of the part before it, or the member that it names
 
@@ -86,11 +39,11 @@ members_of (Some s) = s.members
 -- the kind of the element at a place
 abbrev pub element : Environment → Option Kind → ℕ → Option Kind
 element env (Some (array k)) i = Some k
-element env (Some (structure k)) i = slice_get (members_of (structure_at env k)).kinds i
+element env (Some (structure k)) i = member_at (members_of (structure_at env k)) i
 element env _ i = None
 
 abbrev pub member_place : Environment → Option Kind → Name → Option ℕ
-member_place env (Some (structure k)) m = look_up (members_of (structure_at env k)).names m
+member_place env (Some (structure k)) m = e.member_place (members_of (structure_at env k)) m
 member_place env _ m = None
 
 -- the place that a part fills, behind a place

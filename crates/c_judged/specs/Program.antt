@@ -2,10 +2,9 @@
 use Rattle.std.specs.Prelude.{ℕ, List, [], ◌∷◌, Option, Some, None, true, ◌||◌, is_none, codes, if◌then◌else◌}
 use Rattle.std.specs.Option.{option_and_then}
 use Rattle.c_kinds.specs.Kind.{Kind}
-use Rattle.c_scopes.specs.Scope.{look_up}
 use Rattle.c_tree.specs.Tree.{Name, StatementTree, block, FunctionTree, ItemTree, function_item, declaration_item}
 use Rattle.c_environment.specs.Entity.{DeclaredType}
-use Rattle.c_environment.specs.Environment.{Environment, is_initialised, function_number}
+use Rattle.c_environment.specs.Environment.{Environment, linked_entity, is_initialised, function_number}
 use Rattle.c_environment.specs.Start.{start}
 use Rattle.c_environment.specs.Types.{specified, pointed, function_type}
 use Rattle.c_environment.specs.Behind.{behind_specifiers, parameter_kinds}
@@ -19,7 +18,7 @@ use Rattle.c_declared.specs.Operands.{Rows}
 use Rattle.c_declared.specs.declared.faults.Faults.{Faults}
 use Rattle.c_declared.specs.Faults.{faults_of_both, faults_specifiers, faults_parameters, result_faults}
 use Rattle.c_declared.specs.Nodes.{said_specifiers, said_parameters, broken}
-use Rattle.c_judged.specs.Declarations.{is_taken, differs, entity_at, kind_of, said_declaration}
+use Rattle.c_judged.specs.Declarations.{is_taken, differs, kind_of, said_declaration}
 use Rattle.c_judged.specs.Statements.{Body, labels, no_cases, said_statement, said_statements}
 
 -- ---- functions (6.9.1)
@@ -72,7 +71,7 @@ said_items rows env (i ∷ is) = both (said_item rows env i) (said_items rows (b
 
 -- the type of the function main, where the program defines one
 abbrev pub main_kind : Environment → Option Kind
-main_kind env = if is_none (function_number env (codes "main")) then None else option_and_then kind_of (entity_at env (look_up env.linked (codes "main")))
+main_kind env = if is_none (function_number env (codes "main")) then None else option_and_then kind_of (linked_entity env (codes "main"))
 
 abbrev pub or_misfit : Option (ℕ × MisfitKind) → Option MisfitKind → Option (ℕ × MisfitKind)
 or_misfit (Some p) o = Some p

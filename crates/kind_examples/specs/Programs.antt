@@ -3,8 +3,9 @@ use Rattle.std.specs.Prelude.{List, [], ◌∷◌, ◌++◌, Option, Some, None,
 use Rattle.c_tree.specs.declared.tree.AssignOp.TheVariants as assign_op
 use Rattle.c_tree.specs.declared.tree.BinaryOp.TheVariants as op
 use Rattle.c_tree.specs.declared.tree.Storage.{Storage}
+use Rattle.c_tree.specs.declared.tree.UnaryOp.TheVariants as unary_op
 use Rattle.c_tree.specs.declared.tree.Storage.TheVariants as storage
-use Rattle.c_tree.specs.Tree.{Name, Expression, assign, binary, size_of_type, call, dot, name, integer, Expressions, no_expressions, expressions, no_sizes, size, typed, Specifiers, no_specifiers, specifiers, const_word, void_word, int_word, type_name, struct_tag, struct_of, enum_of, no_members, member, no_declarators, declarators, no_enumerators, enumerator, enumerator_with, DeclaratorTree, plain, array, function, Parameters, no_parameters, parameters, named_form, bare_stars, single, listed, no_initializers, initializers, NamedTree, DeclarationTree, StatementTree, block, declaration, expression_statement, switch_statement, case_label, named_label, return_statement, goto_statement, ItemTree, function_item, declaration_item}
+use Rattle.c_tree.specs.Tree.{Name, Expression, assign, binary, size_of_type, unary, index, call, dot, name, integer, Expressions, no_expressions, expressions, no_sizes, open_size, size, typed, Specifiers, no_specifiers, specifiers, const_word, void_word, int_word, type_name, struct_tag, struct_of, enum_of, no_members, member, no_declarators, declarators, no_enumerators, enumerator, enumerator_with, DeclaratorTree, plain, array, function, Parameters, no_parameters, parameters, named_form, bare_stars, single, listed, no_initializers, initializers, NamedTree, DeclarationTree, StatementTree, block, declaration, expression_statement, switch_statement, case_label, named_label, return_statement, goto_statement, ItemTree, function_item, declaration_item}
 use Rattle.c_tree.specs.StatementView.{statements_of}
 
 -- ---- words
@@ -45,6 +46,13 @@ struct_stat = specifiers (struct_tag (codes "stat")) no_specifiers
 -- { int a; }
 abbrev one_member : Option Name → Specifiers
 one_member tag = specifiers (struct_of tag (member int (declarators (plain [] (codes "a")) no_declarators) no_members)) no_specifiers
+
+abbrev struct_s : Specifiers
+struct_s = specifiers (struct_tag (codes "s")) no_specifiers
+
+-- { int a; another }
+abbrev two_members : Name → Specifiers → DeclaratorTree → Specifiers
+two_members tag ws d = specifiers (struct_of (Some tag) (member int (declarators (plain [] (codes "a")) no_declarators) (member ws (declarators d no_declarators) no_members))) no_specifiers
 
 -- a name with one star
 abbrev starred : Name → DeclaratorTree
@@ -102,6 +110,21 @@ main ss = defines int (codes "main") no_parameters true ss
 -- int main(void) { statements return 0; }
 abbrev ends : List StatementTree → ItemTree
 ends ss = main (ss ++ returns zero ∷ [])
+
+-- void f(void) { storage int x = 1; } int x = 2; int main(void) { return 0; }
+abbrev around_two : Storage → List ItemTree
+around_two s = defines void (codes "f") no_parameters true (declaration (declares s int (set_to (codes "x") one ∷ [])) ∷ []) ∷ outer int (set_to (codes "x") two ∷ []) ∷ ends [] ∷ []
+
+-- typedef int A[]; items
+abbrev behind_open : List ItemTree → List ItemTree
+behind_open is = declaration_item (declares storage.Typedef int (unset (array [] (codes "A") (open_size no_sizes)) ∷ [])) ∷ is
+
+abbrev open_type : Specifiers
+open_type = specifiers (type_name (codes "A")) no_specifiers
+
+-- typedef int A[]; A names; int main(void) { return 0; }
+abbrev open_a : List NamedTree → List ItemTree
+open_a ns = behind_open (outer open_type ns ∷ ends [] ∷ [])
 
 -- ---- programs and main
 
@@ -164,6 +187,16 @@ defined_nowhere = main (elsewhere ∷ returns x ∷ []) ∷ []
 -- its definition may follow
 abbrev pub defined_behind : List ItemTree
 defined_behind = main (elsewhere ∷ returns x ∷ []) ∷ outer int (int_named (codes "x")) ∷ []
+
+-- void f(void) { extern int x = 1; } int x = 2; int main(void) { return 0; }
+-- an object with linkage is one, in a block and outside, and has one initialiser
+abbrev pub initialised_twice : List ItemTree
+initialised_twice = around_two storage.Extern
+
+-- void f(void) { static int x = 1; } int x = 2; int main(void) { return 0; }
+-- that of a block without extern is another
+abbrev pub initialised_apart : List ItemTree
+initialised_apart = around_two storage.Static
 
 -- int main(void) { return sizeof(enum { A }) + A; }
 -- a type in an expression declares its enumerators
@@ -241,6 +274,51 @@ array_assigned = ends (local int (unset (array [] (codes "a") (size two no_sizes
 abbrev pub array_parameter : List ItemTree
 array_parameter = declaration_item (declares storage.Typedef int (unset (array [] (codes "T") (size two no_sizes)) ∷ [])) ∷ defines void (codes "f") (one_parameter (specifiers (type_name (codes "T")) no_specifiers) (codes "a")) false (stores a zero ∷ []) ∷ ends [] ∷ []
 
+-- typedef int A[]; A a; int main(void) { return 0; }
+-- an array without a size is incomplete, though a typedef names the type
+abbrev pub array_without_size : List ItemTree
+array_without_size = open_a (int_named (codes "a"))
+
+-- typedef int A[]; A a[2]; int main(void) { return 0; }
+-- so it is no element of an array
+abbrev pub elements_without_size : List ItemTree
+elements_without_size = open_a (unset (array [] (codes "a") (size two no_sizes)) ∷ [])
+
+-- int *p; int *q = &p[1]; int main(void) { return 0; }
+-- where a pointer points to is its value: no element behind it has an address that is constant
+abbrev pub element_behind_a_pointer : List ItemTree
+element_behind_a_pointer =
+    outer int (unset (starred (codes "p")) ∷ []) ∷ outer int (record { declarator = starred (codes "q"); init = Some (single (unary unary_op.Address (index p one))) } ∷ []) ∷ ends [] ∷ []
+
+-- int a[2]; int *q = &a[1]; int main(void) { return 0; }
+abbrev pub element_of_an_array : List ItemTree
+element_of_an_array =
+    outer int (unset (array [] (codes "a") (size two no_sizes)) ∷ []) ∷ outer int (record { declarator = starred (codes "q"); init = Some (single (unary unary_op.Address (index a one))) } ∷ []) ∷ ends [] ∷ []
+
+-- typedef int A[]; int main(void) { A a; return 0; }
+abbrev pub local_without_size : List ItemTree
+local_without_size = behind_open (ends (local open_type (int_named (codes "a")) ∷ []) ∷ [])
+
+-- typedef int A[]; struct s { int a; A b; }; int main(void) { return 0; }
+abbrev pub member_without_size : List ItemTree
+member_without_size = behind_open (outer (two_members (codes "s") open_type (plain [] (codes "b"))) [] ∷ ends [] ∷ [])
+
+-- typedef int A[]; extern A a; void f(A a) { } int main(void) { return 0; }
+-- its size may stand elsewhere, and a parameter is a pointer
+abbrev pub array_elsewhere : List ItemTree
+array_elsewhere =
+    behind_open (declaration_item (declares storage.Extern open_type (int_named (codes "a"))) ∷ defines void (codes "f") (one_parameter open_type (codes "a")) false [] ∷ ends [] ∷ [])
+
+-- typedef int A[]; A a = { 1 }; int main(void) { return 0; }
+-- an initialiser gives it a size
+abbrev pub array_initialised : List ItemTree
+array_initialised = open_a (record { declarator = plain [] (codes "a"); init = Some (listed (initializers None (single one) no_initializers) false) } ∷ [])
+
+-- typedef int A[]; A *a; int main(void) { return 0; }
+-- and there are pointers to it
+abbrev pub array_pointed_to : List ItemTree
+array_pointed_to = open_a (unset (starred (codes "a")) ∷ [])
+
 -- ---- constants
 
 -- enum { A = 2147483647, B }; int main(void) { return 0; }
@@ -282,4 +360,14 @@ own_structure = outer (one_member (Some (codes "stat"))) [] ∷ ends (local stru
 -- void f(struct s { int a; } *p); int main(void) { struct s x; return 0; }
 -- a tag that a prototype's parameter declares ends with the prototype
 abbrev pub tag_of_a_prototype : List ItemTree
-tag_of_a_prototype = outer void (unset (function [] (codes "f") (parameters (one_member (Some (codes "s"))) (named_form (starred (codes "p"))) no_parameters) false) ∷ []) ∷ ends (local (specifiers (struct_tag (codes "s")) no_specifiers) (int_named (codes "x")) ∷ []) ∷ []
+tag_of_a_prototype = outer void (unset (function [] (codes "f") (parameters (one_member (Some (codes "s"))) (named_form (starred (codes "p"))) no_parameters) false) ∷ []) ∷ ends (local struct_s (int_named (codes "x")) ∷ []) ∷ []
+
+-- struct s; struct s { int a; struct s *p; }; int main(void) { return 0; }
+-- a structure's members begin behind its tag, and may point to it
+abbrev pub own_pointer : List ItemTree
+own_pointer = outer struct_s [] ∷ outer (two_members (codes "s") struct_s (starred (codes "p"))) [] ∷ ends [] ∷ []
+
+-- struct s { int a; struct s { int a; } b; }; int main(void) { return 0; }
+-- but they begin once, though they haven't ended
+abbrev pub begun_twice : List ItemTree
+begun_twice = outer (two_members (codes "s") (one_member (Some (codes "s"))) (plain [] (codes "b"))) [] ∷ ends [] ∷ []

@@ -11,6 +11,7 @@ pub fn programs_fit()
     ensures own_initializer { Fits programs.own_initializer }
     ensures parameter_hidden { Fits programs.parameter_hidden }
     ensures defined_behind { Fits programs.defined_behind }
+    ensures initialised_apart { Fits programs.initialised_apart }
     ensures enumerator_in_sizeof { Fits programs.enumerator_in_sizeof }
     ensures library_hidden { Fits programs.library_hidden }
     ensures library_called { Fits programs.library_called }
@@ -18,8 +19,13 @@ pub fn programs_fit()
     ensures zero_action { Fits programs.zero_action }
     ensures difference_of_pointers { Fits programs.difference_of_pointers }
     ensures array_parameter { Fits programs.array_parameter }
+    ensures array_elsewhere { Fits programs.array_elsewhere }
+    ensures array_initialised { Fits programs.array_initialised }
+    ensures array_pointed_to { Fits programs.array_pointed_to }
     ensures goto_forward { Fits programs.goto_forward }
+    ensures element_of_an_array { Fits programs.element_of_an_array }
     ensures own_structure { Fits programs.own_structure }
+    ensures own_pointer { Fits programs.own_pointer }
 {}
 
 /// In each of these programs this node is the first that breaks a rule, and this is the rule.
@@ -31,6 +37,7 @@ pub fn programs_break()
     ensures first_of_two { Breaks 5 UnknownName programs.first_of_two }
     ensures parameter_declared_again { Breaks 5 DeclaredTwice programs.parameter_declared_again }
     ensures defined_nowhere { Breaks 6 UnknownName programs.defined_nowhere }
+    ensures initialised_twice { Breaks 7 DeclaredTwice programs.initialised_twice }
     ensures library_as_value { Breaks 8 LibraryAsValue programs.library_as_value }
     ensures too_few_for_the_library { Breaks 4 WrongCount programs.too_few_for_the_library }
     ensures no_handler { Breaks 6 KindMismatch programs.no_handler }
@@ -40,10 +47,16 @@ pub fn programs_break()
     ensures sum_of_pointers { Breaks 7 KindMismatch programs.sum_of_pointers }
     ensures constant_assigned { Breaks 7 NotAssignable programs.constant_assigned }
     ensures array_assigned { Breaks 7 NotAssignable programs.array_assigned }
+    ensures array_without_size { Breaks 4 KindMismatch programs.array_without_size }
+    ensures elements_without_size { Breaks 4 KindMismatch programs.elements_without_size }
+    ensures local_without_size { Breaks 6 KindMismatch programs.local_without_size }
+    ensures member_without_size { Breaks 5 KindMismatch programs.member_without_size }
     ensures enumerator_past_int { Breaks 4 NotConstant programs.enumerator_past_int }
     ensures static_initializer { Breaks 4 NotConstant programs.static_initializer }
+    ensures element_behind_a_pointer { Breaks 4 NotConstant programs.element_behind_a_pointer }
     ensures case_twice { Breaks 8 DeclaredTwice programs.case_twice }
     ensures goto_without_label { Breaks 3 UnknownName programs.goto_without_label }
     ensures built_in_structure { Breaks 7 UnknownName programs.built_in_structure }
     ensures tag_of_a_prototype { Breaks 8 UnknownName programs.tag_of_a_prototype }
+    ensures begun_twice { Breaks 1 DeclaredTwice programs.begun_twice }
 {}

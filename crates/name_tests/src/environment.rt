@@ -109,6 +109,27 @@ fn is_complete(env: &Environment, tag: Option<Option<u32>>) -> bool {
     }
 }
 
+/// Whether members of the structure have begun.
+fn has_begun(env: &Environment, number: u32) -> bool {
+    match env.structure(number) {
+        Some(structure) => structure.begun && !structure.complete,
+        None => false,
+    }
+}
+
+/// Whether members begin behind a tag that was declared alone, and not before.
+fn members_begin<'a>(env: &mut Environment<'a>, tag: &'a Option<Lexeme>) -> Answer {
+    env.entered()?;
+    env.with_tag_alone(b"s")?;
+    let number = env.defined_structure(tag)?;
+    let before = has_begun(env, number);
+    env.opened(tag)?;
+    let same = env.defined_structure(tag)? == number;
+    let behind = has_begun(env, number);
+    env.left();
+    Ok(!before && same && behind)
+}
+
 /// Whether a tag with braces in a block is another structure than that of the same tag around, and a tag alone the same.
 fn tags_stand_apart<'a>(
     alloc: Global,
@@ -209,7 +230,7 @@ fn volatile_type(
     env.specified(words.as_slice())
 }
 
-/// `typedef int row[4];` and `typedef sig_atomic_t flag;`
+/// `typedef int row[];` and `typedef sig_atomic_t flag;`
 fn with_typedefs(alloc: Global, env: &mut Environment) -> Result<(), AllocError> {
     let row = int().arrayed(alloc, &[None])?;
     env.with_name(Storage::Typedef, b"row", row)?;
@@ -217,14 +238,15 @@ fn with_typedefs(alloc: Global, env: &mut Environment) -> Result<(), AllocError>
     env.with_name(Storage::Typedef, b"flag", flag)
 }
 
-/// Whether a parameter of the type `row` is a pointer without its qualifiers, and `flag` is volatile and sig_atomic_t.
+/// Whether `row` has no size, a parameter of the type `row` is a pointer without its qualifiers, and `flag` is volatile and sig_atomic_t.
 fn typedefs_stand_for_types(alloc: Global, env: &mut Environment) -> Answer {
     with_typedefs(alloc, env)?;
-    let row = has_word(&volatile_type(alloc, env, b"row")?, Word::Array);
+    let row = volatile_type(alloc, env, b"row")?;
+    let is_open = has_word(&row, Word::Array) && row.is_open;
     let pointer = volatile_type(alloc, env, b"row")?.adjusted()?;
-    let adjusted = has_word(&pointer, Word::Ptr) && !pointer.volatile;
+    let adjusted = has_word(&pointer, Word::Ptr) && !pointer.is_open && !pointer.volatile;
     let flag = volatile_type(alloc, env, b"flag")?;
-    Ok(row && adjusted && flag.atomic && flag.volatile && !flag.constant)
+    Ok(is_open && adjusted && flag.atomic && flag.volatile && !flag.constant)
 }
 
 /// Whether `void (*table[2])(int)` is an array of pointers to functions.
@@ -248,6 +270,7 @@ fn follows<'a>(alloc: Global, env: &mut Environment<'a>, tag: &'a Option<Lexeme>
         is_start(env)
             && hides(env)?
             && tags_stand_apart(alloc, env, tag)?
+            && members_begin(env, tag)?
             && is_linked(env)?
             && has_values(env)?
             && qualifies_its_place(alloc, env)?

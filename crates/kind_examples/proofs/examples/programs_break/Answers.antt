@@ -30,6 +30,10 @@ pub returns-clause-defined_nowhere : goal.returns-clause-defined_nowhere
 unfolding profile_rows
 returns-clause-defined_nowhere c = refl
 
+pub returns-clause-initialised_twice : goal.returns-clause-initialised_twice
+unfolding profile_rows
+returns-clause-initialised_twice c = refl
+
 pub returns-clause-library_as_value : goal.returns-clause-library_as_value
 unfolding profile_rows
 returns-clause-library_as_value c = refl
@@ -66,6 +70,22 @@ pub returns-clause-array_assigned : goal.returns-clause-array_assigned
 unfolding profile_rows
 returns-clause-array_assigned c = refl
 
+pub returns-clause-array_without_size : goal.returns-clause-array_without_size
+unfolding profile_rows
+returns-clause-array_without_size c = refl
+
+pub returns-clause-elements_without_size : goal.returns-clause-elements_without_size
+unfolding profile_rows
+returns-clause-elements_without_size c = refl
+
+pub returns-clause-local_without_size : goal.returns-clause-local_without_size
+unfolding profile_rows
+returns-clause-local_without_size c = refl
+
+pub returns-clause-member_without_size : goal.returns-clause-member_without_size
+unfolding profile_rows
+returns-clause-member_without_size c = refl
+
 pub returns-clause-enumerator_past_int : goal.returns-clause-enumerator_past_int
 unfolding profile_rows
 returns-clause-enumerator_past_int c = refl
@@ -89,3 +109,11 @@ returns-clause-built_in_structure c = refl
 pub returns-clause-tag_of_a_prototype : goal.returns-clause-tag_of_a_prototype
 unfolding profile_rows
 returns-clause-tag_of_a_prototype c = refl
+
+pub returns-clause-begun_twice : goal.returns-clause-begun_twice
+unfolding profile_rows
+returns-clause-begun_twice c = refl
+
+pub returns-clause-element_behind_a_pointer : goal.returns-clause-element_behind_a_pointer
+unfolding profile_rows
+returns-clause-element_behind_a_pointer c = refl

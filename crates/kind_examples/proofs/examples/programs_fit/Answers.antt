@@ -22,6 +22,10 @@ pub returns-clause-defined_behind : goal.returns-clause-defined_behind
 unfolding profile_rows
 returns-clause-defined_behind c = refl
 
+pub returns-clause-initialised_apart : goal.returns-clause-initialised_apart
+unfolding profile_rows
+returns-clause-initialised_apart c = refl
+
 pub returns-clause-enumerator_in_sizeof : goal.returns-clause-enumerator_in_sizeof
 unfolding profile_rows
 returns-clause-enumerator_in_sizeof c = refl
@@ -50,6 +54,18 @@ pub returns-clause-array_parameter : goal.returns-clause-array_parameter
 unfolding profile_rows
 returns-clause-array_parameter c = refl
 
+pub returns-clause-array_elsewhere : goal.returns-clause-array_elsewhere
+unfolding profile_rows
+returns-clause-array_elsewhere c = refl
+
+pub returns-clause-array_initialised : goal.returns-clause-array_initialised
+unfolding profile_rows
+returns-clause-array_initialised c = refl
+
+pub returns-clause-array_pointed_to : goal.returns-clause-array_pointed_to
+unfolding profile_rows
+returns-clause-array_pointed_to c = refl
+
 pub returns-clause-goto_forward : goal.returns-clause-goto_forward
 unfolding profile_rows
 returns-clause-goto_forward c = refl
@@ -57,3 +73,11 @@ returns-clause-goto_forward c = refl
 pub returns-clause-own_structure : goal.returns-clause-own_structure
 unfolding profile_rows
 returns-clause-own_structure c = refl
+
+pub returns-clause-own_pointer : goal.returns-clause-own_pointer
+unfolding profile_rows
+returns-clause-own_pointer c = refl
+
+pub returns-clause-element_of_an_array : goal.returns-clause-element_of_an_array
+unfolding profile_rows
+returns-clause-element_of_an_array c = refl

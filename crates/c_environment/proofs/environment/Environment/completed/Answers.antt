@@ -6,4 +6,4 @@ use Rattle.c_environment.proofs.environment.Environment.completed.Goals as goal
 pub returns-then-place-len : goal.returns-then-place-len
 returns-then-place-len c =
     ap (λ ss. record (seen_environment c.args.self.now) { structures = ss })
-    (map-set seen_structure c.args.self.now.structures.items c.args.number (record { members = c.args.members; complete = true; declared = true }))
+    (map-set seen_structure c.args.self.now.structures.items c.args.number (record { members = c.args.members; begun = true; complete = true; declared = true }))

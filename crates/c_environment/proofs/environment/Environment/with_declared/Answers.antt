@@ -13,6 +13,6 @@ returns-then-place-len c =
     let is : slice_get env.structures.items c.args.number ≡ Some there =
     slice_get_read env.structures.items (vec_len env.structures) c.args.number there env.structures.ok.0 (omega (arith, c.if-place-len.true, c.len.ensures)) c.index_mut.ensures.value in
     ap (λ ss. record (seen_environment env) { structures = ss })
-    (map-set seen_structure env.structures.items c.args.number (record { members = there.members; complete = there.complete; declared = true }))
+    (map-set seen_structure env.structures.items c.args.number (record { members = there.members; begun = there.begun; complete = there.complete; declared = true }))
     ∙ marked_there (seen_environment env) c.args.number (seen_structure there)
     (slice_get-map seen_structure env.structures.items c.args.number ∙ ap (option_map seen_structure) is)

@@ -114,7 +114,12 @@ pub(crate) fn walked_comma(
     ensures operand { IfOk result (λ w. seen_operand w.operand ≡ spec.valued (operators.comma (seen_operand x.now.operand) (seen_operand y.now.operand))) }
     ensures constness { IfOk result (λ w. w.constness ≡ spec_constness.of_none) }
 {
-    with_form(alloc, comma(&x.operand, &y.operand)?, Form::plain(), Constness::none())
+    with_form(
+        alloc,
+        comma(&x.operand, &y.operand)?,
+        Form::plain(),
+        Constness::none(),
+    )
 }
 
 pub(crate) fn walked_assign(
@@ -178,8 +183,13 @@ pub(crate) fn walked_unary(
     ensures operand { IfOk result (λ w. seen_operand w.operand ≡ spec.placed (operators.unary op (seen_operand x.now.operand)) (form.unary_form op (seen_operand x.now.operand))) }
     ensures constness { IfOk result (λ w. w.constness ≡ spec_constness.of_unary op x.now.constness) }
 {
-        let verdict = unary(alloc, op, &x.operand)?;
-    with_form(alloc, verdict, unary_form(op, &x.operand), x.constness.unary(op))
+    let verdict = unary(alloc, op, &x.operand)?;
+    with_form(
+        alloc,
+        verdict,
+        unary_form(op, &x.operand),
+        x.constness.unary(op),
+    )
 }
 
 pub(crate) fn walked_step(alloc: Global, x: &Walked) -> Result<Boxed<Walked>, AllocError>
@@ -193,7 +203,12 @@ pub(crate) fn walked_size_of(alloc: Global, x: &Walked) -> Result<Boxed<Walked>,
     ensures operand { IfOk result (λ w. seen_operand w.operand ≡ spec.valued (conversions.size_of (seen_operand x.now.operand))) }
     ensures constness { IfOk result (λ w. w.constness ≡ spec_constness.of_constant) }
 {
-    with_form(alloc, size_of(&x.operand), Form::plain(), Constness::constant())
+    with_form(
+        alloc,
+        size_of(&x.operand),
+        Form::plain(),
+        Constness::constant(),
+    )
 }
 
 pub(crate) fn walked_index(
@@ -280,7 +295,12 @@ pub(crate) fn walked_dot(
     ensures constness { IfOk result (λ w. w.constness ≡ spec_constness.of_dot x.now.constness) }
 {
     let of = member_kind(env, member, x.operand.verdict.kind());
-    with_form(alloc, dot(of, &x.operand)?, x.operand.form.dot(), x.constness.dot())
+    with_form(
+        alloc,
+        dot(of, &x.operand)?,
+        x.operand.form.dot(),
+        x.constness.dot(),
+    )
 }
 
 pub(crate) fn walked_arrow(
@@ -293,14 +313,24 @@ pub(crate) fn walked_arrow(
     ensures constness { IfOk result (λ w. w.constness ≡ spec_constness.of_none) }
 {
     let of = pointed_member(env, member, x.operand.verdict.kind());
-    with_form(alloc, arrow(of, &x.operand)?, Form::arrow(), Constness::none())
+    with_form(
+        alloc,
+        arrow(of, &x.operand)?,
+        Form::arrow(),
+        Constness::none(),
+    )
 }
 
 pub(crate) fn walked_integer(alloc: Global, bytes: &[u8]) -> Result<Boxed<Walked>, AllocError>
     ensures operand { IfOk result (λ w. seen_operand w.operand ≡ spec.placed (names.integer bytes.now) (form.integer_form bytes.now)) }
     ensures constness { IfOk result (λ w. w.constness ≡ spec_constness.of_constant) }
 {
-    with_form(alloc, integer(bytes), Form::integer(bytes), Constness::constant())
+    with_form(
+        alloc,
+        integer(bytes),
+        Form::integer(bytes),
+        Constness::constant(),
+    )
 }
 
 pub(crate) fn walked_character(alloc: Global) -> Result<Boxed<Walked>, AllocError>
@@ -321,7 +351,12 @@ pub(crate) fn walked_paren(alloc: Global, x: &Walked) -> Result<Boxed<Walked>, A
     ensures operand { IfOk result (λ w. seen_operand w.operand ≡ spec.placed (operators.paren (seen_operand x.now.operand)) (form.paren_form x.now.operand.form)) }
     ensures constness { IfOk result (λ w. w.constness ≡ x.now.constness) }
 {
-    with_form(alloc, paren(&x.operand)?, x.operand.form.paren(), x.constness)
+    with_form(
+        alloc,
+        paren(&x.operand)?,
+        x.operand.form.paren(),
+        x.constness,
+    )
 }
 
 /// The node of an expression that has been walked ends. Err where there is not enough memory.

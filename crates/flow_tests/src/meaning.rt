@@ -98,7 +98,10 @@ fn has_array_member(program: &Program, name: &[u8]) -> bool {
 fn library(table: &Table, name: &[u8]) -> Callee {
     match str::from_utf8(name) {
         Ok(name) => match table.place(name) {
-            Some(k) => Callee::Library(k as u32),
+            Some(k) => match u32::try_from(k) {
+                Ok(k) => Callee::Library(k),
+                Err(_) => Callee::Pointer,
+            },
             None => Callee::Pointer,
         },
         Err(_) => Callee::Pointer,

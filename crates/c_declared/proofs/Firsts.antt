@@ -1,5 +1,5 @@
 -- A list by its first part, where the list is seen by cases of that.
-use Rattle.std.proofs.Common.{◌≡◌, ℕ, List, [], ◌∷◌, ◌&&◌, Option, Some, None, ℤ, Bool, true, refl}
+use Rattle.std.proofs.Common.{◌≡◌, ℕ, List, ◌∷◌, ◌&&◌, Option, Some, None, ℤ, refl}
 use Rattle.c_constants.specs.Constants as constants
 use Rattle.c_tree.specs.Tree.{Expression}
 use Rattle.c_tree.specs.View.{sizes_of, enumerators_of}

@@ -1,5 +1,5 @@
 -- What is seen of lists of verdicts.
-use Rattle.std.proofs.Common.{◌≡◌, ℕ, suc, List, [], ◌∷◌, length, refl, ap}
+use Rattle.std.proofs.Common.{◌≡◌, suc, List, [], ◌∷◌, length, refl, ap}
 use Rattle.c_rules.specs.declared.verdict.Verdict.{Verdict}
 use Rattle.c_declared.specs.Seen.{all_seen}
 

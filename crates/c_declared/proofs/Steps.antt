@@ -1,5 +1,5 @@
 -- What is said of parts that stand one after another, by what each adds.
-use Rattle.std.proofs.Common.{◌≡◌, ℕ, ◌+◌, ◌<◌, List, [], ◌∷◌, ◌++◌, length, get_or, drop, suc, Bool, ◌&&◌, Result, Ok, Err, refl, ap, sym, ◌∙◌, subst, add-one, drop-cons, append_assoc, OnOk}
+use Rattle.std.proofs.Common.{◌≡◌, ℕ, ◌+◌, ◌<◌, List, [], ◌∷◌, ◌++◌, length, get_or, drop, suc, Bool, ◌&&◌, Result, Ok, Err, ap, sym, ◌∙◌, subst, add-one, drop-cons, append_assoc, OnOk}
 use Rattle.c_judgements.specs.Parts.{added}
 use Rattle.c_rules.specs.Judgement.{Judgement}
 use Rattle.c_tree.specs.Tree as c

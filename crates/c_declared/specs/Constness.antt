@@ -1,5 +1,5 @@
 -- Which constant expressions an expression is (C11 6.6), by what its parts are.
-use Rattle.std.specs.Prelude.{Option, Bool, true, false, ◌&&◌}
+use Rattle.std.specs.Prelude.{Option, true, false, ◌&&◌}
 use Rattle.c_kinds.specs.Kind.{Kind}
 use Rattle.c_tree.specs.declared.tree.UnaryOp.{UnaryOp}
 use Rattle.c_tree.specs.Tree.{Expression}

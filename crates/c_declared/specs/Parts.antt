@@ -1,7 +1,6 @@
 -- What is said of one part of a list, and what the names stand for behind it: of a size, an enumerator, a member, a parameter.
 use Rattle.std.specs.Prelude.{ℕ, List, Option, Some, None, ℤ, Bool, true, ◌&&◌}
 use Rattle.c_tree.specs.Tree.{Expression, Specifiers, Declarators, DeclaratorTree, ParameterForm, BareTree}
-use Rattle.c_tree.specs.DeclaredNames.{declarator_name}
 use Rattle.c_environment.specs.Entity.{DeclaredType, Members, enumerator}
 use Rattle.c_environment.specs.Environment.{Environment, with_entity}
 use Rattle.c_environment.specs.Types.{specified, adjusted}

@@ -1,5 +1,5 @@
 -- Constant expressions in the initialisers of objects with static storage duration (C11 6.7.9p4, 6.6p7 to p9), over a table with these rows.
-use Rattle.std.specs.Prelude.{Option, Some, None, Bool, true, false, ◌&&◌}
+use Rattle.std.specs.Prelude.{Option, Some, Bool, true, false, ◌&&◌}
 use Rattle.c_kinds.specs.Kind.{Kind, array}
 use Rattle.c_tree.specs.declared.tree.UnaryOp.{UnaryOp}
 use Rattle.c_tree.specs.declared.tree.UnaryOp.TheVariants as u

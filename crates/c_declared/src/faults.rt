@@ -29,7 +29,7 @@ pub struct Faults {
 }
 
 /// Whether both hold.
-pub(crate) fn both(one: bool, other: bool) -> bool
+pub fn both(one: bool, other: bool) -> bool
     ensures { result ≡ (one && other) }
 {
     one && other
@@ -92,7 +92,8 @@ fn structure_clashes(env: &Environment, known: Option<Option<u32>>) -> bool
     }
 }
 
-fn names_enumeration(known: Option<Option<u32>>) -> bool
+/// Whether a tag that is known as this names an enumeration.
+pub fn names_enumeration(known: Option<Option<u32>>) -> bool
     ensures { result ≡ spec.names_enumeration known }
 {
     matches!(known, Some(None))

@@ -8,10 +8,14 @@ mod faults;
 mod judgements;
 mod operands;
 mod rules;
+mod walk;
 
 pub use constness::Constness;
 pub use declared::{Declared, ParametersPart, Part, SizesPart};
-pub use faults::{Faults, is_own, object_faults, result_faults, tag_unknown};
+pub use faults::{
+    Faults, both, is_own, names_enumeration, object_faults, result_faults, tag_unknown,
+};
 pub use judgements::Judgements;
 pub use operands::Walked;
-pub use rules::declared_name;
+pub use rules::{broken, declared_name, once};
+pub use walk::{walk_declarator, walk_operand, walk_parameters, walk_specifiers};

@@ -33,7 +33,8 @@ use c_tree::Declarator;
 use sqlite_items::Boxed;
 use std::alloc::{AllocError, Global};
 
-fn broken(holds: bool, misfit: MisfitKind) -> Option<MisfitKind>
+/// The rule, where it is broken.
+pub fn broken(holds: bool, misfit: MisfitKind) -> Option<MisfitKind>
     ensures { result ≡ nodes.broken holds misfit }
 {
     if holds { Some(misfit) } else { None }
@@ -70,7 +71,7 @@ fn type_rule(faults: Faults, own: Verdict) -> Verdict
 }
 
 /// A node's own rule is asked once the outermost nodes below it are settled.
-pub(crate) fn once(settled: bool, own: Verdict) -> Verdict
+pub fn once(settled: bool, own: Verdict) -> Verdict
     ensures { seen result ≡ if settled then seen own else waits }
 {
     if settled { own } else { Verdict::Waits }

@@ -1,1 +1,4 @@
 pub mod Aligned
+pub mod Joins
+pub mod Alone
+pub mod Named

@@ -5,25 +5,24 @@ use Rattle.c_kinds.specs.Kind.{Kind}
 use Rattle.c_kinds.specs.Matching.{agrees}
 use Rattle.c_tree.specs.declared.tree.Storage.{Storage}
 use Rattle.c_tree.specs.declared.tree.Storage.TheVariants as st
-use Rattle.c_tree.specs.Tree.{Name, Specifiers, no_specifiers, specifiers, struct_tag, DeclaratorTree, function, Initializer, single, listed, NamedTree, DeclarationTree}
+use Rattle.c_tree.specs.Tree.{Name, Specifiers, no_specifiers, specifiers, struct_tag, DeclaratorTree, function, Initializer, NamedTree, DeclarationTree}
 use Rattle.c_tree.specs.DeclaredNames.{declarator_name}
 use Rattle.c_environment.specs.Entity as e
 use Rattle.c_environment.specs.Entity.{DeclaredType, Entity, variable}
 use Rattle.c_environment.specs.Environment.{Environment, entity_here, linked_entity, is_reserved, is_initialised, at_file_scope, tag_here}
 use Rattle.c_environment.specs.Types.{specified}
 use Rattle.c_environment.specs.Behind.{behind_specifiers, behind_declarator, declared}
-use Rattle.c_environment.specs.Scopes.{is_extern, is_typedef, has_linkage, with_name, behind_named}
+use Rattle.c_environment.specs.Scopes.{is_extern, is_typedef, has_linkage, with_name, initialised_by, behind_named}
 use Rattle.c_rules.specs.declared.misfit.MisfitKind.{MisfitKind}
 use Rattle.c_rules.specs.declared.misfit.MisfitKind.TheVariants.{UnknownName, DeclaredTwice, NotConstant, LeftOut, KindMismatch}
 use Rattle.c_rules.specs.Judgement.{Judgement, fits, silent, unless}
-use Rattle.c_rules.specs.Values.{initialiser_misfit}
 use Rattle.c_declared.specs.Said.{Said, nothing, both, node, formless, once}
 use Rattle.c_declared.specs.Operands.{Rows}
 use Rattle.c_declared.specs.declared.faults.Faults.{Faults}
-use Rattle.c_declared.specs.Faults.{faults_of_both, faults_specifiers, faults_declarator, object_faults, is_own, names_enumeration, repeated_if}
+use Rattle.c_declared.specs.Faults.{no_faults, faults_of_both, faults_specifiers, faults_declarator, object_faults, is_own, names_enumeration, repeated_if}
 use Rattle.c_declared.specs.Sizes.{are_sizes, sizes_of}
-use Rattle.c_declared.specs.Nodes.{operand, said_specifiers, said_declarator, broken}
-use Rattle.c_judged.specs.Initializers.{is_static_initializer, said_initializer}
+use Rattle.c_declared.specs.Nodes.{said_specifiers, said_declarator, broken}
+use Rattle.c_judged.specs.Initializers.{or_misfit, part_misfit, is_static_initializer, said_initializer}
 
 -- ---- declared once, or often (6.7p3, 6.2.7p2, 6.9p3)
 
@@ -62,64 +61,76 @@ differs env n k = differs_from k (option_and_then kind_of (linked_entity env n))
 
 -- An object's array has a size, unless it is initialised, which gives it one (6.7.9p22), or declared with `extern`; a type's name may be one of
 -- an array without a size.
-abbrev pub may_be_open : Storage → Option Initializer → Bool
-may_be_open storage i = is_some i || is_extern storage || is_typedef storage
+abbrev pub may_be_open : Storage → Bool → Bool
+may_be_open storage initialised = initialised || is_extern storage || is_typedef storage
 
 abbrev pub mismatched : Rows → Environment → Kind → Option Initializer → Option MisfitKind
 mismatched rows env k None = None
-mismatched rows env k (Some (single x)) = initialiser_misfit k (operand rows env x)
-mismatched rows env k (Some (listed ps last)) = None
+mismatched rows env k (Some i) = part_misfit rows env (Some k) i
 
 abbrev pub is_function_form : DeclaratorTree → Bool
 is_function_form (function ss n ps v) = true
 is_function_form _ = false
 
--- a type's name, a function's, an object's
-abbrev pub named_faults : Environment → Storage → Specifiers → DeclaredType → DeclaratorTree → Faults
-named_faults env st.Typedef ws t d = faults_declarator env t d
-named_faults env storage ws t d =
-    if is_function_form d then faults_declarator env t d else faults_of_both (object_faults env (behind_declarator env d) ws (is_own d) (declared env t d)) (faults_declarator env t d)
+-- an object's type is complete, and its tag declared before it; that of a typedef's name or a function's needn't be
+abbrev pub is_object : Storage → DeclaratorTree → Bool
+is_object storage d = not (is_typedef storage) && not (is_function_form d)
 
--- it is initialised as an object of static storage duration
+abbrev pub named_faults : Environment → Storage → Specifiers → DeclaredType → DeclaratorTree → Faults
+named_faults env storage ws t d =
+    faults_of_both (if is_object storage d then object_faults env (behind_declarator env d) ws (is_own d) (declared env t d) else no_faults) (faults_declarator env t d)
+
+-- it is initialised as an object of static storage duration, by constants
 abbrev pub is_static : Storage → Bool
 is_static st.Static = true
 is_static _ = false
 
-abbrev pub is_lasting : Environment → Storage → Bool
-is_lasting env storage = at_file_scope env || is_static storage || is_extern storage
+abbrev pub is_lasting : Bool → Storage → Bool
+is_lasting outside storage = outside || is_static storage || is_extern storage
 
-abbrev pub is_not_constant : Rows → Environment → Storage → Option Initializer → Bool
-is_not_constant rows env storage None = false
-is_not_constant rows env storage (Some i) = is_lasting env storage && not (is_static_initializer rows env i)
+abbrev pub is_static_if_any : Rows → Environment → Option Initializer → Bool
+is_static_if_any rows env None = true
+is_static_if_any rows env (Some i) = is_static_initializer rows env i
 
-abbrev pub is_initialised_again : Environment → Bool → Name → Option Initializer → Bool
-is_initialised_again env linked n None = false
-is_initialised_again env linked n (Some i) = linked && is_initialised env n
+-- Behind the declarator, before the name is in scope: what is broken of a name with this linkage, this type and these faults, initialised or not.
+abbrev pub declared_misfit : Environment → Bool → DeclaredType → Name → Bool → Faults → Option MisfitKind
+declared_misfit env linked t n initialised f =
+    or_misfit (broken f.unknown UnknownName)
+    (or_misfit (broken (is_taken env linked t.is_function n || (linked && initialised && is_initialised env n)) DeclaredTwice)
+    (or_misfit (broken (linked && differs env n t.kind) KindMismatch)
+    (or_misfit (broken f.repeated DeclaredTwice) (broken f.passed LeftOut))))
 
--- before the declarator, and behind it, where the name is in scope
+-- what is said of it, by what is broken first, whether its sizes and its initialiser are constant, what is wrong with the initialiser, and whether
+-- its type is complete where that must be
+abbrev pub name_rule : Option MisfitKind → Bool → Option MisfitKind → Bool → Kind → Judgement
+name_rule first are_constant misfit is_complete k =
+    unless first (unless (broken (not are_constant) NotConstant) (unless misfit (unless (broken (not is_complete) KindMismatch) (fits k))))
+
+abbrev pub is_complete_by : Storage → Bool → Faults → DeclaredType → Bool
+is_complete_by storage initialised f t = not f.incomplete && (not t.is_open || may_be_open storage initialised)
+
+abbrev pub linked_by : Environment → Storage → DeclaredType → DeclaratorTree → Bool
+linked_by env storage t d = has_linkage env storage (declared env t d).is_function
+
 abbrev pub named_rule : Rows → Environment → Environment → Storage → Specifiers → DeclaredType → NamedTree → Judgement
 named_rule rows env inner storage ws t n =
-    unless (broken (named_faults env storage ws t n.declarator).unknown UnknownName)
-    (unless (broken
-    (is_taken env (has_linkage env storage (declared env t n.declarator).is_function) (declared env t n.declarator).is_function (declarator_name n.declarator)
-    || is_initialised_again env (has_linkage env storage (declared env t n.declarator).is_function) (declarator_name n.declarator) n.init)
-    DeclaredTwice)
-    (unless (broken (has_linkage env storage (declared env t n.declarator).is_function && differs env (declarator_name n.declarator) (declared env t n.declarator).kind) KindMismatch)
-    (unless (broken (named_faults env storage ws t n.declarator).repeated DeclaredTwice)
-    (unless (broken (named_faults env storage ws t n.declarator).passed LeftOut)
-    (unless (broken (not (are_sizes env (sizes_of n.declarator)) || is_not_constant rows inner storage n.init) NotConstant)
-    (unless (mismatched rows inner (declared env t n.declarator).kind n.init)
-    (unless (broken
-    ((named_faults env storage ws t n.declarator).incomplete || ((declared env t n.declarator).is_open && not (may_be_open storage n.init)))
-    KindMismatch)
-    (fits (declared env t n.declarator).kind))))))))
+    name_rule
+    (declared_misfit (behind_declarator env n.declarator) (linked_by env storage t n.declarator) (declared env t n.declarator) (declarator_name n.declarator) (is_some n.init)
+    (named_faults env storage ws t n.declarator))
+    (are_sizes env (sizes_of n.declarator) && (not (is_lasting (at_file_scope env) storage) || is_static_if_any rows inner n.init))
+    (mismatched rows inner (declared env t n.declarator).kind n.init)
+    (is_complete_by storage (is_some n.init) (named_faults env storage ws t n.declarator) (declared env t n.declarator))
+    (declared env t n.declarator).kind
 
 abbrev pub said_optional : Rows → Environment → Kind → Option Initializer → Said
 said_optional rows env k None = nothing
 said_optional rows env k (Some i) = said_initializer rows env (Some k) i
 
+-- in the initialiser the name is in scope, and initialised (6.2.1p7)
 abbrev pub in_initializer : Environment → Storage → DeclaredType → NamedTree → Environment
-in_initializer env storage t n = with_name (behind_declarator env n.declarator) storage (declarator_name n.declarator) (declared env t n.declarator)
+in_initializer env storage t n =
+    initialised_by (with_name (behind_declarator env n.declarator) storage (declarator_name n.declarator) (declared env t n.declarator))
+    (linked_by env storage t n.declarator) (declarator_name n.declarator) n.init
 
 abbrev pub below_named : Rows → Environment → Storage → DeclaredType → NamedTree → Said
 below_named rows env storage t n =
@@ -146,9 +157,11 @@ declaration_faults env ws ns = faults_specifiers env ws
 abbrev pub declaration_rule : Faults → Judgement
 declaration_rule f = unless (broken f.repeated DeclaredTwice) silent
 
+abbrev pub said_list : Rows → Environment → Storage → Specifiers → List NamedTree → Said
+said_list rows env storage ws ns = both (said_specifiers rows env ws) (said_names rows (behind_specifiers env ws) storage ws (specified env ws) ns)
+
 abbrev pub below_declaration : Rows → Environment → DeclarationTree → Said
-below_declaration rows env d =
-    both (said_specifiers rows env d.specs) (said_names rows (behind_specifiers env d.specs) d.storage d.specs (specified env d.specs) d.names)
+below_declaration rows env d = said_list rows env d.storage d.specs d.names
 
 abbrev pub said_declaration : Rows → Environment → DeclarationTree → Said
 said_declaration rows env d = formless (once (below_declaration rows env d) (declaration_rule (declaration_faults env d.specs d.names))) (below_declaration rows env d)

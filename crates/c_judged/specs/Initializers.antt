@@ -1,5 +1,5 @@
 -- What is said of the nodes of initialisers (C11 6.7.9), for an object of a kind, where that is known.
-use Rattle.std.specs.Prelude.{ℕ, suc, Option, Some, None, Bool, true, false, ◌&&◌, ◌||◌, ◌==◌, is_none, if◌then◌else◌}
+use Rattle.std.specs.Prelude.{ℕ, suc, Option, Some, None, Bool, true, false, ◌&&◌, ◌||◌, is_none, if◌then◌else◌}
 use Rattle.std.specs.Option.{option_and_then}
 use Rattle.c_kinds.specs.Kind.{Kind, array, structure}
 use Rattle.c_tree.specs.Tree.{Name, Initializer, single, listed, Initializers, no_initializers, initializers}
@@ -11,7 +11,7 @@ use Rattle.c_rules.specs.declared.misfit.MisfitKind.{MisfitKind}
 use Rattle.c_rules.specs.declared.misfit.MisfitKind.TheVariants.{UnknownName, KindMismatch}
 use Rattle.c_rules.specs.declared.form.Constant.{Constant}
 use Rattle.c_rules.specs.declared.form.Constant.TheVariants.{Other}
-use Rattle.c_rules.specs.Judgement.{Judgement, silent, unless}
+use Rattle.c_rules.specs.Judgement.{Judgement, Operand, silent, unless}
 use Rattle.c_rules.specs.Values.{initialiser_misfit}
 use Rattle.c_rules.specs.Declarations.{list_misfit, positional_misfit}
 use Rattle.c_declared.specs.Said.{Said, nothing, both, formless, once}
@@ -69,33 +69,39 @@ names_unknown env due i no_initializers = false
 names_unknown env due i (initializers n x ps) =
     is_none (filled env due i n) || names_unknown (behind_initializer env x) due (next_place i (filled env due i n)) ps
 
-abbrev pub is_sole : ℕ → Initializers → Bool
-is_sole i no_initializers = i == 0
-is_sole i ps = false
+abbrev pub is_sole : Initializers → Bool
+is_sole (initializers n x no_initializers) = true
+is_sole _ = false
 
 -- of a struct sigaction no part but a sole 0 stands without its member's name
-abbrev pub positional_part : Rows → Environment → Kind → Bool → Option Name → Initializer → Option MisfitKind
-positional_part rows env k alone (Some m) x = None
-positional_part rows env k alone None x = positional_misfit k alone (constant_of rows env x)
+abbrev pub positional_by : Option Kind → Bool → Option Name → Constant → Option MisfitKind
+positional_by (Some k) alone None c = positional_misfit k alone c
+positional_by _ alone _ c = None
+
+abbrev pub positional_part : Rows → Environment → Option Kind → Bool → Option Name → Initializer → Option MisfitKind
+positional_part rows env due alone n x = positional_by due alone n (constant_of rows env x)
 
 abbrev pub or_misfit : Option MisfitKind → Option MisfitKind → Option MisfitKind
 or_misfit (Some m) o = Some m
 or_misfit None o = o
 
-abbrev pub positional_parts : Rows → Environment → Kind → Bool → Initializers → Option MisfitKind
-positional_parts rows env k is_first no_initializers = None
-positional_parts rows env k is_first (initializers n x ps) =
-    or_misfit (positional_part rows env k (is_first && is_sole 0 ps) n x) (positional_parts rows (behind_initializer env x) k false ps)
-
-abbrev pub left_out_parts : Rows → Environment → Option Kind → Initializers → Option MisfitKind
-left_out_parts rows env None ps = None
-left_out_parts rows env (Some k) ps = positional_parts rows env k true ps
+abbrev pub positional_parts : Rows → Environment → Option Kind → Bool → Initializers → Option MisfitKind
+positional_parts rows env due alone no_initializers = None
+positional_parts rows env due alone (initializers n x ps) =
+    or_misfit (positional_part rows env due alone n x) (positional_parts rows (behind_initializer env x) due alone ps)
 
 -- there is an element to fill, and a part that is no list may stand there
+abbrev pub operand_misfit : Option Kind → Operand → Option MisfitKind
+operand_misfit None x = Some KindMismatch
+operand_misfit (Some k) x = initialiser_misfit k x
+
+abbrev pub place_misfit : Option Kind → Option MisfitKind
+place_misfit None = Some KindMismatch
+place_misfit (Some k) = None
+
 abbrev pub part_misfit : Rows → Environment → Option Kind → Initializer → Option MisfitKind
-part_misfit rows env None x = Some KindMismatch
-part_misfit rows env (Some k) (single x) = initialiser_misfit k (operand rows env x)
-part_misfit rows env (Some k) (listed ps last) = None
+part_misfit rows env due (single x) = operand_misfit due (operand rows env x)
+part_misfit rows env due (listed ps last) = place_misfit due
 
 abbrev pub parts_misfit : Rows → Environment → Option Kind → ℕ → Initializers → Option MisfitKind
 parts_misfit rows env due i no_initializers = None
@@ -103,18 +109,18 @@ parts_misfit rows env due i (initializers n x ps) =
     or_misfit (part_misfit rows env (filled_kind env due (filled env due i n)) x)
     (parts_misfit rows (behind_initializer env x) due (next_place i (filled env due i n)) ps)
 
-abbrev pub due_misfit : Option Kind → Option MisfitKind
-due_misfit (Some k) = list_misfit k
-due_misfit None = None
-
 abbrev pub unknown_if : Bool → Option MisfitKind
 unknown_if holds = if holds then Some UnknownName else None
 
+-- by what its parts give: an unknown member, a part of a struct sigaction by its place, a part of another type
+abbrev pub list_judgement : Option Kind → Bool → Option MisfitKind → Option MisfitKind → Judgement
+list_judgement None unknown positional misfit = silent
+list_judgement (Some k) unknown positional misfit =
+    unless (unknown_if unknown) (unless positional (unless (or_misfit (list_misfit k) misfit) silent))
+
 abbrev pub list_rule : Rows → Environment → Option Kind → Initializers → Judgement
-list_rule rows env None ps = silent
-list_rule rows env (Some k) ps =
-    unless (unknown_if (names_unknown env (Some k) 0 ps))
-    (unless (left_out_parts rows env (Some k) ps) (unless (or_misfit (list_misfit k) (parts_misfit rows env (Some k) 0 ps)) silent))
+list_rule rows env due ps =
+    list_judgement due (names_unknown env due 0 ps) (positional_parts rows env due (is_sole ps) ps) (parts_misfit rows env due 0 ps)
 
 abbrev mutual
   pub said_initializer : Rows → Environment → Option Kind → Initializer → Said

@@ -1,5 +1,6 @@
 pub mod Initializers
 pub mod Declarations
+pub mod Parts
 pub mod Statements
 pub mod Program
 pub mod Aligned

@@ -1,5 +1,5 @@
 -- What the parts of a list give together.
-use Rattle.std.proofs.Common.{◌≡◌, List, [], Bool, true, false, ◌&&◌, ◌||◌, Option, Some, None, refl, ap, ◌∙◌}
+use Rattle.std.proofs.Common.{◌≡◌, List, [], ◌++◌, length, Bool, true, false, ◌&&◌, ◌||◌, Option, Some, None, refl, ap, ◌∙◌}
 use Rattle.c_rules.specs.declared.misfit.MisfitKind.{MisfitKind}
 use Rattle.c_judgements.specs.Parts.{added}
 use Rattle.c_rules.specs.Judgement.{Judgement}
@@ -30,6 +30,12 @@ and_true a = joins.and_true a
 
 pub added_none : (ps : List (List Judgement)) → added [] ps ≡ ps
 added_none ps = joins.added_none ps
+
+pub added_twice : (xs ys : List Judgement) (ps : List (List Judgement)) → added ys (added xs ps) ≡ added (xs ++ ys) ps
+added_twice xs ys ps = joins.added_twice xs ys ps
+
+pub length_added : (xs : List Judgement) (ps : List (List Judgement)) → length (added xs ps) ≡ length ps
+length_added xs ps = joins.length_added xs ps
 
 -- ---- one more part of a list: with what was before it, and with what is behind it
 

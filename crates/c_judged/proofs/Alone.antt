@@ -1,6 +1,6 @@
 -- A declaration without names: a structure's tag alone, or other specifiers.
 use Rattle.std.proofs.Common.{◌≡◌, Option, Some, None, refl, ap, ◌∙◌, sym}
-use Rattle.c_tree.specs.Tree.{Name, Specifiers, no_specifiers, specifiers, struct_tag, struct_of, enum_of}
+use Rattle.c_tree.specs.Tree.{Name, Specifiers, no_specifiers, specifiers, struct_tag}
 use Rattle.c_environment.specs.Environment.{Environment, tag_here}
 use Rattle.c_environment.specs.Behind.{behind_specifiers}
 use Rattle.c_environment.specs.Scopes.{behind_alone, declared_tag}

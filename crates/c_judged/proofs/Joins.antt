@@ -1,6 +1,7 @@
 -- What the parts of a list give together.
-use Rattle.std.proofs.Common.{◌≡◌, List, [], ◌++◌, length, Bool, true, false, ◌&&◌, ◌||◌, Option, Some, None, refl, ap, ◌∙◌}
+use Rattle.std.proofs.Common.{◌≡◌, List, [], ◌++◌, length, Bool, true, false, ◌&&◌, ◌||◌, Option, Some, None, refl, ap, ◌∙◌, append_assoc, append-nil}
 use Rattle.c_rules.specs.declared.misfit.MisfitKind.{MisfitKind}
+use Rattle.c_tree.specs.Tree.{Name}
 use Rattle.c_judgements.specs.Parts.{added}
 use Rattle.c_rules.specs.Judgement.{Judgement}
 use Rattle.c_declared.proofs.Joins as joins
@@ -36,6 +37,12 @@ added_twice xs ys ps = joins.added_twice xs ys ps
 
 pub length_added : (xs : List Judgement) (ps : List (List Judgement)) → length (added xs ps) ≡ length ps
 length_added xs ps = joins.length_added xs ps
+
+pub labels_none : (ns : List Name) → ns ++ [] ≡ ns
+labels_none ns = append-nil ns
+
+pub labels_assoc : (a b c : List Name) → (a ++ b) ++ c ≡ a ++ (b ++ c)
+labels_assoc a b c = append_assoc a b c
 
 -- ---- one more part of a list: with what was before it, and with what is behind it
 

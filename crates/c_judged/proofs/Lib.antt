@@ -4,3 +4,4 @@ pub mod Alone
 pub mod Named
 pub mod Settled
 pub mod Switched
+pub mod First

@@ -1,5 +1,5 @@
 -- What is said of the nodes of declarations (C11 6.7).
-use Rattle.std.specs.Prelude.{ℕ, List, [], ◌∷◌, Option, Some, None, Bool, true, false, not, ◌&&◌, ◌||◌, is_some, if◌then◌else◌}
+use Rattle.std.specs.Prelude.{List, [], ◌∷◌, Option, Some, None, Bool, true, false, not, ◌&&◌, ◌||◌, is_some, if◌then◌else◌}
 use Rattle.std.specs.Option.{option_and_then}
 use Rattle.c_kinds.specs.Kind.{Kind}
 use Rattle.c_kinds.specs.Matching.{agrees}
@@ -92,13 +92,17 @@ abbrev pub is_static_if_any : Rows → Environment → Option Initializer → Bo
 is_static_if_any rows env None = true
 is_static_if_any rows env (Some i) = is_static_initializer rows env i
 
--- Behind the declarator, before the name is in scope: what is broken of a name with this linkage, this type and these faults, initialised or not.
+-- what is broken first of a declared name: it stands for something else already, it has had another type, or its parts have these faults
+abbrev pub first_broken : Bool → Bool → Faults → Option MisfitKind
+first_broken is_twice is_other f =
+    or_misfit (broken f.unknown UnknownName)
+    (or_misfit (broken is_twice DeclaredTwice)
+    (or_misfit (broken is_other KindMismatch) (or_misfit (broken f.repeated DeclaredTwice) (broken f.passed LeftOut))))
+
+-- Behind the declarator, before the name is in scope: the same of a name with this linkage, this type and these faults, initialised or not.
 abbrev pub declared_misfit : Environment → Bool → DeclaredType → Name → Bool → Faults → Option MisfitKind
 declared_misfit env linked t n initialised f =
-    or_misfit (broken f.unknown UnknownName)
-    (or_misfit (broken (is_taken env linked t.is_function n || (linked && initialised && is_initialised env n)) DeclaredTwice)
-    (or_misfit (broken (linked && differs env n t.kind) KindMismatch)
-    (or_misfit (broken f.repeated DeclaredTwice) (broken f.passed LeftOut))))
+    first_broken (is_taken env linked t.is_function n || (linked && initialised && is_initialised env n)) (linked && differs env n t.kind) f
 
 -- what is said of it, by what is broken first, whether its sizes and its initialiser are constant, what is wrong with the initialiser, and whether
 -- its type is complete where that must be

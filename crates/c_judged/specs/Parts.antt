@@ -1,5 +1,5 @@
 -- What the parts of initialisers and declarations give, from which what is said of the whole follows.
-use Rattle.std.specs.Prelude.{Option, Some, None, Bool, true, false, not, ◌&&◌, ◌||◌, if◌then◌else◌}
+use Rattle.std.specs.Prelude.{Option, None, Bool, true, false, not, ◌&&◌, ◌||◌, if◌then◌else◌}
 use Rattle.c_kinds.specs.Kind.{Kind}
 use Rattle.c_rules.specs.declared.form.Constant.TheVariants.{Other}
 use Rattle.c_rules.specs.Judgement.{Judgement, waits}

@@ -42,9 +42,8 @@ fn names_function(d: &Declarator) -> bool
 {
     match d {
         Declarator::Function(_, _, _) => true,
-        Declarator::Plain(_, _)
-        | Declarator::Array(_, _, _)
-        | Declarator::Pointer(_, _, _, _, _) => false,
+        Declarator::Plain(_, _) | Declarator::Array(_, _, _) | Declarator::Pointer(_, _, _, _, _) =>
+            false,
     }
 }
 
@@ -136,8 +135,19 @@ pub(crate) fn differs(env: &Environment, name: &[u8], kind: &CType) -> bool
     }
 }
 
-/// What is broken first of a name, behind its declarator.
-pub(crate) fn declared_misfit(
+/// What is broken first of a declared name.
+pub(crate) fn first_broken(is_twice: bool, is_other: bool, faults: Faults) -> Option<MisfitKind>
+    ensures { result ≡ spec.first_broken is_twice is_other faults }
+{
+    let last = broken(faults.passed, MisfitKind::LeftOut);
+    let last = or_misfit(broken(faults.repeated, MisfitKind::DeclaredTwice), last);
+    let last = or_misfit(broken(is_other, MisfitKind::KindMismatch), last);
+    let last = or_misfit(broken(is_twice, MisfitKind::DeclaredTwice), last);
+    or_misfit(broken(faults.unknown, MisfitKind::UnknownName), last)
+}
+
+/// The same behind its declarator.
+fn declared_misfit(
     env: &Environment,
     linked: bool,
     of: &DeclaredType,
@@ -150,15 +160,11 @@ pub(crate) fn declared_misfit(
     let again = linked && initialised && env.is_initialised(name);
     let twice = is_taken(env, linked, of.is_function, name) || again;
     let other = linked && differs(env, name, &of.kind);
-    let last = broken(faults.passed, MisfitKind::LeftOut);
-    let last = or_misfit(broken(faults.repeated, MisfitKind::DeclaredTwice), last);
-    let last = or_misfit(broken(other, MisfitKind::KindMismatch), last);
-    let last = or_misfit(broken(twice, MisfitKind::DeclaredTwice), last);
-    or_misfit(broken(faults.unknown, MisfitKind::UnknownName), last)
+    first_broken(twice, other, faults)
 }
 
 /// What is said of a declared name. Err where there is not enough memory.
-fn name_rule(
+pub(crate) fn name_rule(
     first: Option<MisfitKind>,
     are_constant: bool,
     misfit: Option<MisfitKind>,
@@ -281,7 +287,13 @@ fn end_name(
 {
     let constant = !is_lasting(outside, storage) || init.fixed;
     let are_constant = both(by.are_sizes, constant);
-    let own = name_rule(name.first, are_constant, init.misfit, name.is_complete, &by.of.kind)?;
+    let own = name_rule(
+        name.first,
+        are_constant,
+        init.misfit,
+        name.is_complete,
+        &by.of.kind,
+    )?;
     let own = once(both(by.settled, init.settled), own);
     let settled = own.is_settled();
     out.close(own);

@@ -323,7 +323,7 @@ pub(crate) fn walk_statements<'a>(
 
 /// A statement outside of the block of a switch. Err where there is not enough memory.
 #[cycle(statements)]
-fn walk_elsewhere<'a>(
+pub(crate) fn walk_elsewhere<'a>(
     alloc: Global,
     table: &Table,
     env: &mut Environment<'a>,

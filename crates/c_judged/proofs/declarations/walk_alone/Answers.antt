@@ -1,4 +1,4 @@
-use Rattle.std.proofs.Common.{sym, ap, ◌∙◌, ◌≡◌, map, option_map, IfOk, None}
+use Rattle.std.proofs.Common.{sym, ap, ◌∙◌, ◌≡◌, map, option_map, None}
 use Rattle.std.proofs.lemmas.Result.{IfOk-weaker}
 use Rattle.c_tree.specs.View.{view_specifier, specifiers_of}
 use Rattle.c_environment.specs.Seen.{seen_environment}

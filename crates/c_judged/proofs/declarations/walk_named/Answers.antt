@@ -52,18 +52,18 @@ returns-clause-settled c =
     let first : c.get.result.now ≡ by = c.get.ensures ∙ sym whole in
     let kind : c.get-2.result.now ≡ by = c.get-2.ensures ∙ sym whole in
     let same = closed_is rows env at inner storage ws t (seen_type by.of) n outside c.both-unknown.result by.settled by.are_sizes by.faults c.in_ok-name.name c.in_ok-init.init
-        c.at_file_scope-outside.ensures
-        (c.both-unknown.ensures ∙ ap (λ v. v && c.tag_unknown.result) c.is_own.ensures ∙ ap (λ v. is_own d && v) c.tag_unknown.ensures)
-        (ap (λ w. w.settled) whole ∙ c.in_ok-by.ensures.settled) (ap (λ w. w.are_sizes) whole ∙ c.in_ok-by.ensures.sizes) of
-        (ap (λ w. w.faults) whole ∙ c.in_ok-by.ensures.faults) c.in_ok-by.ensures.behind
-        (c.in_ok-name.ensures.first
-        ∙ ap (λ w. spec.declared_misfit at (parts.linked_at outside storage (seen_type w.of).is_function) (seen_type w.of) (declarator_name d) (is_some n.init) (parts.faults_behind at storage c.both-unknown.result (seen_type w.of) d w.faults)) first)
-        (c.in_ok-name.ensures.complete
-        ∙ ap (λ w. spec.is_complete_by storage (is_some n.init) (parts.faults_behind at storage c.both-unknown.result (seen_type w.of) d w.faults) (seen_type w.of)) first)
-        (entered c)
-        (c.in_ok-init.ensures.settled ∙ ap (λ w. (spec.said_optional rows inner (seen_type w.of).kind n.init).settled) kind)
-        c.in_ok-init.ensures.fixed
-        (c.in_ok-init.ensures.misfit ∙ ap (λ w. spec.mismatched rows inner (seen_type w.of).kind n.init) kind) in
+    c.at_file_scope-outside.ensures
+    (c.both-unknown.ensures ∙ ap (λ v. v && c.tag_unknown.result) c.is_own.ensures ∙ ap (λ v. is_own d && v) c.tag_unknown.ensures)
+    (ap (λ w. w.settled) whole ∙ c.in_ok-by.ensures.settled) (ap (λ w. w.are_sizes) whole ∙ c.in_ok-by.ensures.sizes) of
+    (ap (λ w. w.faults) whole ∙ c.in_ok-by.ensures.faults) c.in_ok-by.ensures.behind
+    (c.in_ok-name.ensures.first
+    ∙ ap (λ w. spec.declared_misfit at (parts.linked_at outside storage (seen_type w.of).is_function) (seen_type w.of) (declarator_name d) (is_some n.init) (parts.faults_behind at storage c.both-unknown.result (seen_type w.of) d w.faults)) first)
+    (c.in_ok-name.ensures.complete
+    ∙ ap (λ w. spec.is_complete_by storage (is_some n.init) (parts.faults_behind at storage c.both-unknown.result (seen_type w.of) d w.faults) (seen_type w.of)) first)
+    (entered c)
+    (c.in_ok-init.ensures.settled ∙ ap (λ w. (spec.said_optional rows inner (seen_type w.of).kind n.init).settled) kind)
+    c.in_ok-init.ensures.fixed
+    (c.in_ok-init.ensures.misfit ∙ ap (λ w. spec.mismatched rows inner (seen_type w.of).kind n.init) kind) in
     IfOk-weaker c.end_name.result (λ s. s ≡ is_settled said) (λ s. s ≡ (spec.said_named rows env c.args.storage ws t n).settled) (λ s h. h ∙ ap is_settled same) c.end_name.ensures.settled
 
 pub returns-clause-behind : goal.returns-clause-behind

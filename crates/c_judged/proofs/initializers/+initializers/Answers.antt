@@ -1,4 +1,4 @@
-use Rattle.std.proofs.Common.{subst, sym, ap, ◌∙◌, ◌≡◌, ◌&&◌, ◌||◌, ◌+◌, map, option_map, is_none, drop}
+use Rattle.std.proofs.Common.{subst, ap, ◌∙◌, ◌≡◌, ◌&&◌, ◌||◌, ◌+◌, map, option_map, is_none, drop}
 use Rattle.c_judgements.specs.Parts.{added}
 use Rattle.c_kinds.specs.View.{view}
 use Rattle.c_tree.specs.StatementView.{view_part, initializers_of}

@@ -1,10 +1,9 @@
-use Rattle.std.proofs.Common.{ap, ◌∙◌, ◌≡◌}
+use Rattle.std.proofs.Common.{ap, ◌∙◌}
 use Rattle.c_tree.specs.View.{view_expression}
 use Rattle.c_tree.specs.StatementView.{view_statement}
 use Rattle.c_environment.specs.Behind.{behind_expression}
 use Rattle.c_environment.specs.Environment.{entered, left}
 use Rattle.c_environment.specs.Scopes as scopes
-use Rattle.c_environment.specs.Seen.{seen_environment}
 use Rattle.c_judged.proofs.statements.+statements.Goals as goal
 
 pub walk_switch-returns-clause-behind : goal.walk_switch-returns-clause-behind

@@ -1,0 +1,36 @@
+use Rattle.std.proofs.Common.{sym, ap, ◌∙◌, [], ◌∷◌, List, map}
+use Rattle.c_judgements.specs.Parts.{added}
+use Rattle.c_tree.specs.StatementView.{view_item}
+use Rattle.c_environment.specs.Scopes.{behind_items}
+use Rattle.c_environment.specs.Seen.{seen_environment}
+use Rattle.c_environment.specs.Start.{start}
+use Rattle.c_rules.specs.Judgement.{Judgement}
+use Rattle.c_rules.specs.Seen.{seen}
+use Rattle.c_judged.specs.Program.{said_items, misfit_of}
+use Rattle.c_judged.proofs.program.judge.Goals as goal
+
+abbrev outermost : List (List Judgement) → List Judgement
+outermost [] = []
+outermost (p ∷ ps) = p
+
+pub returns-clause-all : goal.returns-clause-all
+returns-clause-all c =
+    let rows = c.args.table.now in
+    let items = map view_item c.args.items.now in
+    let env = seen_environment c.in_ok-env.env in
+    ap outermost
+    (sym c.finish-all.ensures
+    ∙ c.in_ok-walk_items.ensures.all
+    ∙ ap (λ p. added (said_items rows env items).all p) c.new-out.ensures
+    ∙ ap (λ e. (said_items rows e items).all ∷ []) c.in_ok-env.ensures)
+
+pub returns-clause-misfit : goal.returns-clause-misfit
+returns-clause-misfit c =
+    let rows = c.args.table.now in
+    let items = map view_item c.args.items.now in
+    let at = seen_environment c.walk_items.new.env in
+    let first = start (map (λ row. row.name) rows) items in
+    c.misfit_of-misfit.ensures
+    ∙ ap (λ xs. misfit_of (map seen xs) at) c.as_slice.ensures.value
+    ∙ ap (λ js. misfit_of js at) (returns-clause-all c)
+    ∙ ap (λ e. misfit_of (said_items rows first items).all e) (c.in_ok-walk_items.ensures.behind ∙ ap (λ e. behind_items e items) c.in_ok-env.ensures)

@@ -7,6 +7,7 @@ that it waits for a part, or nothing.
 
 usage: tests/misfits.py FILE...
 """
+import collections
 import pathlib
 import sys
 
@@ -28,6 +29,11 @@ def fn(ks, k):
 
 
 HANDLER = fn([INT], VOID)
+
+
+# Which constants an expression is: one of a size, one of a static object's initialiser, the place of such an object.
+Constness = collections.namedtuple("Constness", "size fixed lasting")
+NEVER = Constness(False, False, False)
 
 
 class Tree(grammar.Parser):
@@ -634,6 +640,8 @@ class Misfits:
     def __init__(self, items):
         self.names, self.tags, self.structures, self.tagged = [{}], [{}, {}], [], []
         self.linked, self.initialised, self.labels, self.inside = {}, set(), set(), None
+        # the operands so far of the expression that is walked over: which constants they are, and their kinds
+        self.parts = []
         self.implementation = {}
         for n, k in TYPES.items():
             self.implementation[n] = ("type", dict(kind=k, fn=False, is_open=False, const=False, volatile=False, atomic=n == "sig_atomic_t"))
@@ -923,8 +931,8 @@ class Misfits:
         ok, constant = True, True
         for x in sizes:
             if x is not None:
-                constant &= self.may_be_size(x)
                 ok &= self.said(x)
+                constant &= self.parts[-1][0].size
         return ok, constant
 
     def declared_rule(self, faults, twice, constant, complete, k):
@@ -954,21 +962,6 @@ class Misfits:
                 return of, m, ok and ok2
         return of, None, ok and ok2
 
-    def may_be_size(self, x):
-        w = x[0]
-        if w == "name":
-            e = self.entity(x[2])
-            return bool(e) and (e[0] == "enumerator" or e[0] == "built_in" and e[1][0] in ("number", "null", "opaque"))
-        if w in ("integer", "character", "size_of", "size_of_type"):
-            return True
-        if w == "paren":
-            return self.may_be_size(x[2])
-        if w == "unary":
-            return x[2] not in "&*" and self.may_be_size(x[3])
-        if w == "binary":
-            return self.may_be_size(x[3]) and self.may_be_size(x[4])
-        return w == "choose" and all(self.may_be_size(y) for y in x[2:5])
-
     # ---- expressions
 
     def said(self, x, as_callee=False):
@@ -976,10 +969,47 @@ class Misfits:
 
     def operand(self, x, as_callee=False):
         """What is said of the node, and its form: constant, designates, based."""
+        around, self.parts = self.parts, []
         at = self.node(x[1])
         o = self.judged(x, as_callee)
         self.close(at, o[0])
+        around.append((self.constness(x), kind_of(o[0])))
+        self.parts = around
         return o
+
+    def constness(self, x):
+        """Which constants the expression is, behind its operands: each of them by what the names stand for where it stands."""
+        w, last = x[0], self.parts[-1][0] if self.parts else NEVER
+        if w == "name":
+            return self.named_constness(x[2])
+        if w in ("integer", "character", "size_of", "size_of_type"):
+            return Constness(True, True, False)
+        if w == "text":
+            return Constness(False, True, True)
+        if w == "paren":
+            return last
+        if w == "unary" and x[2] == "&":
+            return Constness(False, last.lasting, False)
+        if w == "unary" and x[2] != "*" or w in ("binary", "choose"):
+            operands = [part for part, _ in self.parts]
+            return Constness(all(part.size for part in operands), all(part.fixed for part in operands), False)
+        if w == "cast":
+            return Constness(False, last.fixed, False)
+        if w == "dot":
+            return Constness(False, False, last.lasting)
+        if w == "index":
+            (of, kind), (by, _) = self.parts
+            return Constness(False, False, of.lasting and bool(kind) and kind[0] == "arr" and by.size)
+        return NEVER
+
+    def named_constness(self, n):
+        e = self.entity(n)
+        if not e:
+            return NEVER
+        size = e[0] == "enumerator" or e[0] == "built_in" and e[1][0] in ("number", "null", "opaque")
+        lasting = e[0] == "function" or e[0] == "variable" and e[1]["lasting"]
+        fixed = e[0] in ("enumerator", "function") or e[0] == "built_in" and e[1][0] not in ("errno", "left_out") or lasting and e[1]["kind"][0] == "arr"
+        return Constness(size, fixed, lasting)
 
     def judged(self, x, as_callee):
         w = x[0]
@@ -1064,41 +1094,12 @@ class Misfits:
 
     # ---- initialisers
 
-    def may_be_static(self, x):
-        w = x[0]
-        if w == "name":
-            e = self.entity(x[2])
-            return bool(e) and (e[0] in ("enumerator", "function") or e[0] == "built_in" and e[1][0] not in ("errno", "left_out") or e[0] == "variable" and e[1]["lasting"] and e[1]["kind"][0] == "arr")
-        if w in ("integer", "character", "text", "size_of", "size_of_type"):
-            return True
-        if w == "paren":
-            return self.may_be_static(x[2])
-        if w == "unary":
-            return self.lasting_place(x[3]) if x[2] == "&" else x[2] != "*" and self.may_be_static(x[3])
-        if w == "binary":
-            return self.may_be_static(x[3]) and self.may_be_static(x[4])
-        if w == "choose":
-            return all(self.may_be_static(y) for y in x[2:5])
-        return w == "cast" and self.may_be_static(x[3])
-
-    def lasting_place(self, x):
-        w = x[0]
-        if w == "name":
-            e = self.entity(x[2])
-            return bool(e) and (e[0] == "function" or e[0] == "variable" and e[1]["lasting"])
-        if w in ("paren", "dot"):
-            return self.lasting_place(x[2])
-        return w == "text" or w == "index" and self.lasting_place(x[2]) and (kind_of(self.operand(x[2])[0]) or ("",))[0] == "arr" and self.may_be_size(x[3])
-
-    def is_static(self, i):
-        return self.may_be_static(i[1]) if i[0] == "single" else all(self.is_static(p) for _, p in i[2])
-
     def initializer(self, due, i):
-        """What breaks the rule of who holds it, and whether its nodes are settled."""
+        """What breaks the rule of who holds it, whether its nodes are settled, the constant that it is, and whether a static object may have it."""
         if i[0] == "single":
             x = self.operand(i[1])
-            return initialiser_misfit(due, x) if due else None, is_settled(x[0]), x[1]
-        at, place, settled, unknown, left_out, wrong = self.node(i[1]), 0, True, False, False, False
+            return initialiser_misfit(due, x) if due else None, is_settled(x[0]), x[1], self.parts[-1][0].fixed
+        at, place, settled, unknown, left_out, wrong, fixed = self.node(i[1]), 0, True, False, False, False, True
         members = list(self.structures[due[1]]["members"].items()) if due and due[0] == "struct" else []
         for number, (name, part) in enumerate(i[2]):
             if name is None:
@@ -1108,8 +1109,9 @@ class Misfits:
                 unknown |= j is None
             kind = None if j is None else due[1] if due and due[0] == "arr" else members[j][1] if j < len(members) else None
             wrong |= kind is None
-            m, ok, c = self.initializer(kind, part)
+            m, ok, c, is_fixed = self.initializer(kind, part)
             settled &= ok
+            fixed &= is_fixed
             wrong |= part[0] == "single" and m is not None
             left_out |= name is None and due == ("struct", 11) and not (len(i[2]) == 1 and part[0] == "single" and c == "zero")
             place = (place if j is None else j) + 1
@@ -1117,7 +1119,7 @@ class Misfits:
         if settled:
             j = SILENT if due is None else FAILS("UnknownName") if unknown else FAILS("LeftOut") if left_out else FAILS("KindMismatch") if wrong or due[0] not in ("arr", "struct") else SILENT
         self.close(at, j)
-        return None, True, None
+        return None, True, None, fixed
 
     # ---- declarations
 
@@ -1175,8 +1177,8 @@ class Misfits:
         self.declare(storage, n, t)
         if init is not None and linkage:
             self.initialised.add(n)
-        not_static = init is not None and (file or storage in ("static", "extern")) and not self.is_static(init)
-        m, ok2, _ = self.initializer(t["kind"], init) if init else (None, True, None)
+        m, ok2, _, fixed = self.initializer(t["kind"], init) if init else (None, True, None, True)
+        not_static = (file or storage in ("static", "extern")) and not fixed
         complete = not t["is_open"] or init is not None or storage in ("extern", "typedef")
         j = WAITS
         if ok and ok2:
@@ -1322,7 +1324,7 @@ class Misfits:
 
 def labels(s):
     if isinstance(s, tuple):
-        if s and s[0] == "label":
+        if len(s) == 3 and s[0] == "label":
             yield s[2]
         for part in s:
             yield from labels(part)

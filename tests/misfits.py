@@ -1008,7 +1008,7 @@ class Misfits:
             return NEVER
         size = e[0] == "enumerator" or e[0] == "built_in" and e[1][0] in ("number", "null", "opaque")
         lasting = e[0] == "function" or e[0] == "variable" and e[1]["lasting"]
-        fixed = e[0] in ("enumerator", "function") or e[0] == "built_in" and e[1][0] not in ("errno", "left_out") or lasting and e[1]["kind"][0] == "arr"
+        fixed = e[0] in ("enumerator", "function", "library") or e[0] == "built_in" and e[1][0] not in ("errno", "left_out") or lasting and e[1]["kind"][0] == "arr"
         return Constness(size, fixed, lasting)
 
     def judged(self, x, as_callee):
@@ -1064,7 +1064,7 @@ class Misfits:
             ok = bool(s) and s[0] == "struct"
             based = y[3] or w == "arrow"
             j = after([y], lambda k: FAILS("KindMismatch") if not ok else FAILS("UnknownName") if m is None else if_(based, m))
-            return (j, None, "object" if w == "arrow" else part_of(y[2]), True)
+            return (j, None, element_of(k, y[2]) if w == "arrow" else part_of(y[2]), True)
         assert w == "call"
         e = self.entity(x[2][2]) if x[2][0] == "name" else None
         f = self.operand(x[2], True)

@@ -81,7 +81,7 @@ abbrev mutual
   operand rows env (call f xs) = valued (called (row_of rows env f) (as_callee (behind_expression env f) f (operand rows env f)) (operands rows (behind_expression env f) xs))
   operand rows env (dot x m) =
       placed (access.dot (member_kind (behind_expression env x) m (kind (operand rows env x).judged)) (operand rows env x)) (form.dot_form (operand rows env x).form)
-  operand rows env (arrow x m) = placed (access.arrow (pointed_member (behind_expression env x) m (kind (operand rows env x).judged)) (operand rows env x)) form.arrow_form
+  operand rows env (arrow x m) = placed (access.arrow (pointed_member (behind_expression env x) m (kind (operand rows env x).judged)) (operand rows env x)) (form.arrow_form (operand rows env x))
   operand rows env (after o x) = valued (values.step (operand rows env x))
   operand rows env (name n) = named_operand env n false
   operand rows env (integer z) = placed (names.integer z) (form.integer_form z)

@@ -5,7 +5,7 @@ use Rattle.c_tree.specs.declared.tree.UnaryOp.{UnaryOp}
 use Rattle.c_tree.specs.declared.tree.UnaryOp.TheVariants as u
 use Rattle.c_tree.specs.Tree.{Expression, choose, binary, cast, unary, size_of, size_of_type, index, dot, name, integer, character, text, paren}
 use Rattle.c_builtins.specs.declared.names.BuiltIn.TheVariants as b
-use Rattle.c_environment.specs.Entity.{Entity, variable, function, enumerator, built_in}
+use Rattle.c_environment.specs.Entity.{Entity, variable, function, enumerator, library, built_in}
 use Rattle.c_environment.specs.Environment.{Environment, entity}
 use Rattle.c_environment.specs.Behind.{behind_expression, behind_type}
 use Rattle.c_rules.specs.Judgement.{kind}
@@ -23,6 +23,7 @@ is_constant_entity (Some (built_in b.Errno)) = false
 is_constant_entity (Some (built_in b.LeftOut)) = false
 is_constant_entity (Some (built_in x)) = true
 is_constant_entity (Some (function t)) = true
+is_constant_entity (Some (library k)) = true
 is_constant_entity (Some (variable v)) = v.lasting && is_array (Some v.of.kind)
 is_constant_entity _ = false
 

@@ -52,7 +52,7 @@ fn is_constant_entity(entity: Option<&Entity>) -> bool
     ensures { result ≡ statics.is_constant_entity (option_map (λ e. seen_entity e.now) entity.entry) }
 {
     match entity {
-        Some(Entity::Enumerator(_) | Entity::Function(_)) => true,
+        Some(Entity::Enumerator(_) | Entity::Function(_) | Entity::Library(_)) => true,
         Some(Entity::BuiltIn(built_in)) => {
             !matches!(built_in.get(), BuiltIn::Errno | BuiltIn::LeftOut)
         }

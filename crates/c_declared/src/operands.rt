@@ -24,8 +24,8 @@ use crate::judgements::Judgements;
 use c_environment::{Environment, Structure};
 use c_kinds::CType;
 use c_rules::{
-    Form, Operand, Verdict, arrow, assign, binary, call, character, choose, comma, dot, index,
-    index_form, integer, library_call, paren, size_of, step, text, unary, unary_form,
+    Form, Operand, Verdict, arrow, arrow_form, assign, binary, call, character, choose, comma, dot,
+    index, index_form, integer, library_call, paren, size_of, step, text, unary, unary_form,
 };
 use c_tree::{AssignOp, BinaryOp, Expr, UnaryOp};
 use posix_table::{Row, Table};
@@ -309,14 +309,14 @@ pub(crate) fn walked_arrow(
     x: &Walked,
     member: &[u8],
 ) -> Result<Boxed<Walked>, AllocError>
-    ensures operand { IfOk result (λ w. seen_operand w.operand ≡ spec.placed (access.arrow (spec.pointed_member (seen_environment env.now) member.now (kind (seen x.now.operand.verdict))) (seen_operand x.now.operand)) form.arrow_form) }
+    ensures operand { IfOk result (λ w. seen_operand w.operand ≡ spec.placed (access.arrow (spec.pointed_member (seen_environment env.now) member.now (kind (seen x.now.operand.verdict))) (seen_operand x.now.operand)) (form.arrow_form (seen_operand x.now.operand))) }
     ensures constness { IfOk result (λ w. w.constness ≡ spec_constness.of_none) }
 {
     let of = pointed_member(env, member, x.operand.verdict.kind());
     with_form(
         alloc,
         arrow(of, &x.operand)?,
-        Form::arrow(),
+        arrow_form(&x.operand),
         Constness::none(),
     )
 }

@@ -93,9 +93,9 @@ unary_form _ x = plain_form
 abbrev pub index_form : Operand → Form
 index_form x = place_form (element_of (kind x.judged) x.form.designates)
 
--- `.` and `->` (6.5.2.3p3, p4)
+-- `.` and `->` (6.5.2.3p3, p4); where an array stands before `->`, it is its first element
 abbrev pub dot_form : Form → Form
 dot_form f = place_form (part_of f.designates)
 
-abbrev pub arrow_form : Form
-arrow_form = place_form Object
+abbrev pub arrow_form : Operand → Form
+arrow_form x = dot_form (index_form x)

@@ -118,13 +118,6 @@ impl Form {
     {
         Form::place(self.designates.part())
     }
-
-    /// The form of a member by `->` (C11 6.5.2.3p4).
-    pub fn arrow() -> Form
-        ensures { result ≡ spec.arrow_form }
-    {
-        Form::place(Designates::Object)
-    }
 }
 
 impl Designates {

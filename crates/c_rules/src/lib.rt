@@ -37,7 +37,7 @@ pub use misfit::MisfitKind;
 pub use names::{Denoted, built_in_kind, character, integer, named, text};
 pub use operand::Operand;
 pub use operators::{binary, choose, comma, paren, unary};
-pub use shapes::{index_form, name_form, unary_form};
+pub use shapes::{arrow_form, index_form, name_form, unary_form};
 pub use statements::{condition, evaluated, return_nothing, returned, switched};
 pub use values::{assign, initialiser_misfit, step};
 pub use verdict::{Verdict, first_misfit};

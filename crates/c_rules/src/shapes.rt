@@ -85,3 +85,10 @@ pub fn index_form(x: &Operand) -> Form
 {
     Form::place(element_of(x.kind(), x.form.designates))
 }
+
+/// The form of a member by `->` of what this points to (C11 6.5.2.3p4).
+pub fn arrow_form(x: &Operand) -> Form
+    ensures { result ≡ spec.arrow_form (seen_operand x.now) }
+{
+    index_form(x).dot()
+}

@@ -5,7 +5,7 @@ use std::alloc::AllocError;
 
 /// It is told where it stands otherwise.
 #[rattlefmt::skip]
-const VALUES: [(&str, &str); 10] = [
+const VALUES: [(&str, &str); 14] = [
     ("int main(void){return getpid;}", "LibraryAsValue 1:23"),
     ("int main(void){(*getpid)();}", "LibraryAsValue 1:18"),
     ("int main(void){(void)getpid;}", "LibraryAsValue 1:22"),
@@ -16,6 +16,10 @@ const VALUES: [(&str, &str); 10] = [
     ("int main(void){signal(SIGINT,exit);}", "LibraryAsValue 1:30"),
     ("void f(void(*g)(int)){}int main(void){f(exit);}", "LibraryAsValue 1:41"),
     ("int x=sizeof getpid;int main(void){}", "LibraryAsValue 1:14"),
+    ("void(*h)(int)=exit;int main(void){}", "LibraryAsValue 1:15"),
+    ("struct sigaction a={.sa_handler=_exit};int main(void){}", "LibraryAsValue 1:33"),
+    ("int main(void){static void(*h)(int)=exit;}", "LibraryAsValue 1:37"),
+    ("int main(void){static void(*h[2])(int)={SIG_DFL,exit};}", "LibraryAsValue 1:49"),
 ];
 
 /// Before the arguments of a call it stands for a function, and where a local name hides it, it doesn't.

@@ -27,7 +27,7 @@ a[0]=5;b[1][0]++;*a=6;v.m=7;q->m=8;(*q).k[1]=9;v.n->m--;p[1]=1;*&x=2;}",
 
 /// Nothing of an object that is declared const is stored into.
 #[rattlefmt::skip]
-const CONSTANT: [(&str, &str); 12] = [
+const CONSTANT: [(&str, &str); 14] = [
     ("void f(const int a){a=1;}int main(void){}", "NotAssignable 1:21"),
     ("void f(const int*a,const int b[2]){a=b;b=0;*a=1;b[1]=2;}int main(void){}", "fits"),
     ("const int a[2][2]={{1,2}};int main(void){a[1][0]++;}", "NotAssignable 1:42"),
@@ -39,6 +39,8 @@ const CONSTANT: [(&str, &str); 12] = [
     ("const int a[2]={1};int main(void){(*(a))=1;}", "NotAssignable 1:35"),
     ("struct s{int m;};const struct s t[2]={{1}};int main(void){t[1].m=1;}", "NotAssignable 1:59"),
     ("typedef int A[2];typedef const A B;B b={1};int main(void){b[0]=1;}", "NotAssignable 1:59"),
+    ("struct s{int m;};const struct s t[2]={{1}};int main(void){t->m=1;}", "NotAssignable 1:59"),
+    ("struct s{int m;};const struct s t[2]={{1}},*p=t;int main(void){p->m=1;}", "fits"),
     ("typedef int*P;const P p=0;int main(void){*p=1;}", "fits"),
 ];
 

@@ -5,7 +5,7 @@ use std::alloc::AllocError;
 
 /// One block declares a name once; names with linkage may stand again as such.
 #[rattlefmt::skip]
-const BLOCKS: [(&str, &str); 10] = [
+const BLOCKS: [(&str, &str); 14] = [
     ("int main(void){int x;int (*x)(void);}", "DeclaredTwice 1:26"),
     ("int main(void){int x;{int x;}}", "fits"),
     ("void f(int a){int a;}int main(void){}", "DeclaredTwice 1:19"),
@@ -16,6 +16,10 @@ const BLOCKS: [(&str, &str); 10] = [
     ("int main(void){enum{A,A};}", "DeclaredTwice 1:23"),
     ("int main(void){int a;\nint a;\n}", "DeclaredTwice 2:5"),
     ("enum{x}x;int main(void){}", "DeclaredTwice 1:8"),
+    ("int x[sizeof(enum{x})];int main(void){}", "DeclaredTwice 1:5"),
+    ("int main(void){int x[sizeof(enum{x})];}", "DeclaredTwice 1:20"),
+    ("int(*p[sizeof(enum{p})])(void)={0};int main(void){}", "DeclaredTwice 1:4"),
+    ("int main(void){static int x[sizeof(enum{x})];}", "DeclaredTwice 1:27"),
 ];
 
 /// At file scope a name is one object or one function, with one initialiser or one body.

@@ -186,8 +186,7 @@ fn are_named_forms() -> bool {
     ) && matches!(
         c_rules::name_form(Denoted::Library).designates,
         Designates::LibraryFunction
-    ) && Form::arrow().based
-        && Form::text().based
+    ) && Form::text().based
 }
 
 #[test]

@@ -27,7 +27,7 @@ use Rattle.fact_values.specs.declared.part.Held.{Held}
 use Rattle.fact_values.specs.declared.part.Held.TheVariants as held
 use Rattle.fact_values.specs.declared.consequence.Consequence.{Consequence}
 use Rattle.fact_values.specs.Objects.{obj_cmp, holder_cmp, target_cmp, fn_cmp, has_target}
-use Rattle.fact_values.specs.Facts.{View, consequence, handler_cmp, fork_cmp, InstalledUnder, HoldsPart, Holds, Below, HeldUnder, Weaker, IsLeastWith, IsInBounds, IsPartWithin}
+use Rattle.fact_values.specs.Facts.{View, consequence, handler_cmp, fork_cmp, InstalledUnder, HoldsPart, Holds, Below, HeldUnder, Fits, Weaker, IsLeastWith, IsInBounds, IsPartWithin}
 use Rattle.fact_values.proofs.Exact.{exact_obj, exact_holder, exact_target, exact_fn, exact_handler, exact_fork, obj_total, holder_total, target_total, fn_total, handler_total, fork_total}
 use Rattle.fact_values.proofs.Signals.{or_left, or_right, or_least, installed_refl, installed_trans}
 
@@ -330,3 +330,12 @@ stirred_bounds f o inb within = record { least = inb.least; most = inb.most; eac
         (λ e _. subst (λ x. IsPartWithin f.depth (part.Stirred x)) (tells_apart exact_obj o x e) within)
         (λ e is. inb.each (consequence (part.Stirred x) held.Nothing) is) y
     each p k x = inb.each (consequence p k) x
+
+-- what a thread and a fork handler hold
+pub thread_nothing : (g : FnId) (h : Held) → Fits (part.Thread g) h → h ≡ held.Nothing
+thread_nothing g held.Nothing fits = refl
+thread_nothing g _ fits = absurd fits
+
+pub fork_nothing : (r : Role) (g : FnId) (h : Held) → Fits (part.Fork r g) h → h ≡ held.Nothing
+fork_nothing r g held.Nothing fits = refl
+fork_nothing r g _ fits = absurd fits

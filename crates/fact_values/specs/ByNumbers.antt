@@ -1,8 +1,8 @@
--- The orders of objects, holders, targets and parts are those of their lists of numbers, and tell apart what `==` does.
-use Rattle.std.proofs.Common.{◌≡◌, ℕ, Bool, List, [], ◌++◌, append-nil, refl, sym, ◌∙◌, subst}
-use Rattle.std.specs.Ordering.{nat_cmp, ordering_then, as_partial_cmp, is_eq}
-use Rattle.std.specs.Cmp.{IsTotalOrder, IsPartialOrder, nat_cmp_total, unsigned_ties, both_tied, po}
-use Rattle.std.proofs.lemmas.Cmp.{on_total}
+-- The orders of objects, holders, targets and parts are those of their lists of numbers, and `==` holds of what they do not tell apart.
+use Rattle.std.proofs.Common.{◌≡◌, ℕ, List, [], ◌++◌, append-nil, refl, sym, ◌∙◌, subst}
+use Rattle.std.specs.Ordering.{nat_cmp, ordering_then, as_partial_cmp, eq_by_cmp}
+use Rattle.std.specs.Cmp.{IsTotalOrder, IsPartialOrder, IsEquivalence, nat_cmp_total, po}
+use Rattle.std.proofs.lemmas.Cmp.{on_total, eq_by_cmp_equiv}
 use Rattle.std.specs.declared.cmp.Ordering.{Ordering}
 use Rattle.std.specs.Cmp.Lexicographic.{slice_cmp, lists_total}
 use Rattle.call_ctx.specs.Order.{ctx_cmp, node_cmp}
@@ -15,13 +15,6 @@ use Rattle.fact_values.specs.declared.object.Target.{Target}
 use Rattle.fact_values.specs.declared.object.Target.TheVariants as target
 use Rattle.fact_values.specs.declared.part.Part.{Part}
 use Rattle.fact_values.specs.declared.part.Part.TheVariants as part
-use Rattle.call_ctx.specs.contracts.cell.CellOrd.TheImpl.Laws as cell_laws
-use Rattle.call_ctx.specs.contracts.context.CtxOrd.TheImpl.Laws as ctx_laws
-use Rattle.call_ctx.specs.contracts.context.RoleOrd.TheImpl.Laws as role_laws
-use Rattle.fact_values.specs.contracts.object.ObjPartialEq.TheImpl as obj_equal
-use Rattle.fact_values.specs.contracts.object.HolderPartialEq.TheImpl as holder_equal
-use Rattle.fact_values.specs.contracts.object.TargetPartialEq.TheImpl as target_equal
-use Rattle.fact_values.specs.contracts.part.PartPartialEq.TheImpl as part_equal
 use Rattle.fact_values.specs.Objects.{obj_cmp, holder_cmp, target_cmp, fn_cmp, obj_numbers, holder_numbers, target_numbers}
 use Rattle.fact_values.specs.PartOrder.{part_cmp, part_numbers}
 
@@ -68,47 +61,45 @@ part_by_numbers (part.Fork r g) (part.Fork q h) = both (role_by_number r q) (sym
 part_by_numbers (part.Stirred o) (part.Stirred p) = obj_by_numbers o p
 part_by_numbers _ _ = refl
 
-obj_ties : (a b : Obj) → obj_equal.eq-value.it a b ≡ is_eq (obj_cmp a b)
-obj_ties (Variable v c) (Variable w d) = both_tied _ _ _ _ (unsigned_ties v.0 w.0) (ctx_laws.matches_eq-law c d)
-obj_ties (Text n) (Text m) = unsigned_ties n.0 m.0
-obj_ties (Allocated n c) (Allocated m d) = both_tied _ _ _ _ (unsigned_ties n.0 m.0) (ctx_laws.matches_eq-law c d)
-obj_ties (Library n) (Library m) = unsigned_ties n m
-obj_ties (Arrival f c) (Arrival g d) = both_tied _ _ _ _ (unsigned_ties f.0 g.0) (ctx_laws.matches_eq-law c d)
-obj_ties Arguments Arguments = refl
-obj_ties _ _ = refl
+-- an order by numbers is total, and a partial order up to what it does not tell apart
+total_by : {X : Type 0} (cmp : X → X → Ordering) (numbers : X → List ℕ) → ((a b : X) → cmp a b ≡ slice_cmp nat_cmp (numbers a) (numbers b)) → IsTotalOrder cmp
+total_by cmp numbers same = subst IsTotalOrder (λ i a b. sym (same a b) i) (on_total numbers (lists_total nat_cmp_total))
 
-holder_ties : (a b : Holder) → holder_equal.eq-value.it a b ≡ is_eq (holder_cmp a b)
-holder_ties (holder.Object o) (holder.Object p) = obj_ties o p
-holder_ties (holder.Node n c) (holder.Node m d) = both_tied _ _ _ _ (unsigned_ties n.0 m.0) (ctx_laws.matches_eq-law c d)
-holder_ties _ _ = refl
+partial_by : {X : Type 0} {cmp : X → X → Ordering} → IsTotalOrder cmp → IsPartialOrder (eq_by_cmp cmp) (as_partial_cmp cmp)
+partial_by o = po o (λ a b. refl)
 
-target_ties : (a b : Target) → target_equal.eq-value.it a b ≡ is_eq (target_cmp a b)
-target_ties (target.Object o) (target.Object p) = obj_ties o p
-target_ties (target.Function f) (target.Function g) = unsigned_ties f.0 g.0
-target_ties _ _ = refl
+obj_total : IsTotalOrder obj_cmp
+obj_total = total_by obj_cmp obj_numbers obj_by_numbers
 
-part_ties : (a b : Part) → part_equal.eq-value.it a b ≡ is_eq (part_cmp a b)
-part_ties (part.Cell c) (part.Cell d) = cell_laws.matches_eq-law c d
-part_ties (part.Target h t) (part.Target k u) = both_tied _ _ _ _ (holder_ties h k) (target_ties t u)
-part_ties (part.Installed s g) (part.Installed t h) = both_tied _ _ _ _ (unsigned_ties s t) (unsigned_ties g.0 h.0)
-part_ties (part.Thread g) (part.Thread h) = unsigned_ties g.0 h.0
-part_ties (part.Fork r g) (part.Fork q h) = both_tied _ _ _ _ (role_laws.matches_eq-law r q) (unsigned_ties g.0 h.0)
-part_ties (part.Stirred o) (part.Stirred p) = obj_ties o p
-part_ties _ _ = refl
+pub obj_equiv : IsEquivalence (eq_by_cmp obj_cmp)
+obj_equiv = eq_by_cmp_equiv obj_total
 
--- an order by numbers is a partial order up to what it does not tell apart
-partial : {X : Type 0} (equal : X → X → Bool) (cmp : X → X → Ordering) (numbers : X → List ℕ) → ((a b : X) → cmp a b ≡ slice_cmp nat_cmp (numbers a) (numbers b))
-    → ((a b : X) → equal a b ≡ is_eq (cmp a b)) → IsPartialOrder equal (as_partial_cmp cmp)
-partial equal cmp numbers same ties = po (subst IsTotalOrder (λ i a b. sym (same a b) i) (on_total numbers (lists_total nat_cmp_total))) ties
+pub obj_partial : IsPartialOrder (eq_by_cmp obj_cmp) (as_partial_cmp obj_cmp)
+obj_partial = partial_by obj_total
 
-pub obj_partial : IsPartialOrder obj_equal.eq-value.it (as_partial_cmp obj_cmp)
-obj_partial = partial _ obj_cmp obj_numbers obj_by_numbers obj_ties
+holder_total : IsTotalOrder holder_cmp
+holder_total = total_by holder_cmp holder_numbers holder_by_numbers
 
-pub holder_partial : IsPartialOrder holder_equal.eq-value.it (as_partial_cmp holder_cmp)
-holder_partial = partial _ holder_cmp holder_numbers holder_by_numbers holder_ties
+pub holder_equiv : IsEquivalence (eq_by_cmp holder_cmp)
+holder_equiv = eq_by_cmp_equiv holder_total
 
-pub target_partial : IsPartialOrder target_equal.eq-value.it (as_partial_cmp target_cmp)
-target_partial = partial _ target_cmp target_numbers target_by_numbers target_ties
+pub holder_partial : IsPartialOrder (eq_by_cmp holder_cmp) (as_partial_cmp holder_cmp)
+holder_partial = partial_by holder_total
 
-pub part_partial : IsPartialOrder part_equal.eq-value.it (as_partial_cmp part_cmp)
-part_partial = partial _ part_cmp part_numbers part_by_numbers part_ties
+target_total : IsTotalOrder target_cmp
+target_total = total_by target_cmp target_numbers target_by_numbers
+
+pub target_equiv : IsEquivalence (eq_by_cmp target_cmp)
+target_equiv = eq_by_cmp_equiv target_total
+
+pub target_partial : IsPartialOrder (eq_by_cmp target_cmp) (as_partial_cmp target_cmp)
+target_partial = partial_by target_total
+
+part_total : IsTotalOrder part_cmp
+part_total = total_by part_cmp part_numbers part_by_numbers
+
+pub part_equiv : IsEquivalence (eq_by_cmp part_cmp)
+part_equiv = eq_by_cmp_equiv part_total
+
+pub part_partial : IsPartialOrder (eq_by_cmp part_cmp) (as_partial_cmp part_cmp)
+part_partial = partial_by part_total

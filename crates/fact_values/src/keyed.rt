@@ -1,4 +1,4 @@
-ghost use Rattle.std.specs.Prelude.{◌≡◌, map, IfOk};
+ghost use Rattle.std.specs.Prelude.{◌≡◌, map, slice_get, IfOk};
 
 use base_core::NoMemory;
 use std::alloc::Global;
@@ -25,4 +25,11 @@ pub(crate) fn map_keys<K: Ord + Copy, V>(
         Ok(list) => Ok(list),
         Err(_) => Err(NoMemory),
     }
+}
+
+/// The k-th key of a set, from 0; None exactly from their number on. It takes time like k.
+pub(crate) fn key_at<K: Ord + Copy>(set: &BTreeSet<K>, k: usize) -> Option<K>
+    ensures { result ≡ slice_get set.now.keys k }
+{
+    set.iter().nth(k).copied()
 }

@@ -1,5 +1,8 @@
-ghost use Rattle.std.specs.Prelude.{◌≡◌, ◌↔◌, IsTrue};
-ghost use Rattle.std.specs.Ordering.{as_partial_cmp};
+ghost use Rattle.std.specs.Prelude.{◌≡◌, ◌↔◌, IsTrue, refl};
+ghost use Rattle.std.specs.Cmp.{partial_equiv_from_equiv};
+ghost use Rattle.std.specs.Ordering.{as_partial_cmp, eq_by_cmp};
+ghost use Rattle.fact_values.specs.PartOrder.{part_cmp};
+ghost use Rattle.fact_values.specs.ByNumbers.{part_equiv, part_partial};
 ghost use Rattle.fact_values.specs.Facts.{InstalledUnder, installed_join};
 
 use crate::{Holder, Obj, Target};
@@ -37,7 +40,7 @@ impl Installed {
 }
 
 /// A part of facts, in the order in which parts are compared.
-#[derive(Clone, Copy, PartialEq, Eq, Ord)]
+#[derive(Clone, Copy, Ord)]
 pub enum Part {
     /// The state of a cell.
     Cell(Cell),
@@ -52,17 +55,33 @@ pub enum Part {
     Stirred(Obj),
 }
 
-impl PartialOrd for Part {
-    ghost use Rattle.fact_values.specs.contracts.part.PartOrd.TheImpl as order;
-    ghost use Rattle.fact_values.specs.ByNumbers.{part_partial};
+impl PartialEq for Part {
+    ghost eq = { eq_by_cmp part_cmp };
 
-    ghost partial_cmp = { as_partial_cmp order.cmp-value.it };
+    ghost laws = { partial_equiv_from_equiv part_equiv };
+
+    fn eq(&self, other: &Part) -> bool {
+        self.cmp(other).is_eq()
+    }
+}
+
+impl Eq for Part {
+    ghost laws = { part_equiv };
+}
+
+impl PartialOrd for Part {
+    ghost partial_cmp = { as_partial_cmp part_cmp };
 
     ghost laws = { part_partial };
 
     fn partial_cmp(&self, other: &Part) -> Option<Ordering> {
         Some(self.cmp(other))
     }
+}
+
+#[derived]
+impl Ord for Part {
+    ghost matches_eq = { λ a b. refl };
 }
 
 /// What a part must hold.

@@ -1,9 +1,8 @@
-ghost use Rattle.std.specs.Prelude.{◌≡◌, [], ◌∷◌, slice_get, false, OnErr, IfOk};
+ghost use Rattle.std.specs.Prelude.{◌≡◌, [], ◌∷◌, false, OnErr, IfOk};
 ghost use Rattle.std.specs.List.Sorted.{IsStrictlySortedBy};
-ghost use Rattle.fact_values.specs.Objects.{target_cmp, has_target, is_empty, InsertsTarget};
+ghost use Rattle.fact_values.specs.Objects.{target_cmp, is_empty, InsertsTarget};
 
 use crate::Target;
-use crate::keyed::keys_of;
 use base_core::NoMemory;
 use std::alloc::Global;
 use std::collections::BTreeSet;
@@ -12,7 +11,7 @@ use std::marker::Model;
 /// Targets in their order. A contract sees the list.
 #[derive(Drop)]
 pub(crate) struct TargetSet {
-    items: BTreeSet<Target>,
+    pub(crate) items: BTreeSet<Target>,
 }
 
 impl Model for TargetSet {
@@ -25,27 +24,6 @@ impl Model for TargetSet {
 }
 
 impl TargetSet {
-    /// The k-th target, from 0; None exactly from their number on. It takes time like k.
-    pub(crate) fn at(&self, k: usize) -> Option<Target>
-        ensures { result ≡ slice_get self.now k }
-    {
-        self.items.iter().nth(k).copied()
-    }
-
-    /// The targets, in order.
-    pub(crate) fn list(&self, alloc: Global) -> Result<Vec<Target>, NoMemory>
-        ensures { IfOk result (λ targets. targets.items ≡ self.now) }
-    {
-        keys_of(&self.items, alloc)
-    }
-
-    /// Whether it is one of these targets.
-    pub(crate) fn has(&self, target: Target) -> bool
-        ensures { result ≡ has_target self.now target }
-    {
-        self.items.contains(&target)
-    }
-
     /// Takes the target in; true exactly where it was none of these. Without memory all stays.
     pub(crate) fn insert(&mut self, target: Target) -> Result<bool, NoMemory>
         ensures inserts { IfOk result (λ grew. InsertsTarget target grew self.old self.new) }

@@ -110,16 +110,19 @@ impl Facts {
         ensures adds { IfOk result (λ grew. Adds (consequence p.now h.now) grew self.old.lists self.new.lists) }
         ensures err { OnErr result (self.new.lists ≡ self.old.lists) }
     {
-        match (p, h) {
-            (Part::Cell(cell), Held::State(state)) => self.add_state(*cell, state),
-            (Part::Target(holder, target), Held::Nothing) => self.add_target(*holder, *target),
-            (Part::Installed(signal, function), Held::Installed(installed)) => {
-                self.add_installed(*signal, *function, installed)
-            }
-            (Part::Thread(function), Held::Nothing) => self.add_thread(*function),
-            (Part::Fork(role, function), Held::Nothing) => self.add_fork(*role, *function),
-            (Part::Stirred(object), Held::Nothing) => self.add_stirred(*object),
-            _ => Ok(false),
+        match p {
+            Part::Cell(cell) => match h {
+                Held::State(state) => self.add_state(*cell, state),
+                _ => Ok(false),
+            },
+            Part::Target(holder, target) => self.add_target(*holder, *target),
+            Part::Installed(signal, function) => match h {
+                Held::Installed(installed) => self.add_installed(*signal, *function, installed),
+                _ => Ok(false),
+            },
+            Part::Thread(function) => self.add_thread(*function),
+            Part::Fork(role, function) => self.add_fork(*role, *function),
+            Part::Stirred(object) => self.add_stirred(*object),
         }
     }
 }

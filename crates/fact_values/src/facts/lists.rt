@@ -30,7 +30,7 @@ impl Facts {
     {
         match self.targets.get(&h) {
             None => Ok(Vec::new(alloc)),
-            Some(targets) => targets.list(alloc),
+            Some(targets) => keys_of(&targets.items, alloc),
         }
     }
 

@@ -6,6 +6,7 @@ ghost use Rattle.fact_values.specs.Objects.{holder_cmp, obj_cmp, fn_cmp};
 ghost use Rattle.fact_values.specs.Facts.{view, consequence, marks_of, targets_at, IsFit, Holds};
 
 use super::{Facts, Marks};
+use crate::keyed::key_at;
 use crate::{Held, Holder, Installed, Obj, Part, Target};
 use abstract_values::State;
 use base_core::{FnId, NoMemory, Sig};
@@ -81,7 +82,7 @@ impl Facts {
     {
         match self.targets.get(&h) {
             None => None,
-            Some(targets) => targets.at(k),
+            Some(targets) => key_at(&targets.items, k),
         }
     }
 
@@ -108,7 +109,7 @@ impl Facts {
     pub fn thread(&self, k: usize) -> Option<FnId>
         ensures { result ≡ slice_get self.now.lists.threads k }
     {
-        self.threads.iter().nth(k).copied()
+        key_at(&self.threads, k)
     }
 
     /// The k-th fork handler, from 0; None exactly from their number on. It takes time like k: a walk goes by
@@ -116,7 +117,7 @@ impl Facts {
     pub fn fork(&self, k: usize) -> Option<(Role, FnId)>
         ensures { result ≡ slice_get self.now.lists.forks k }
     {
-        self.forks.iter().nth(k).copied()
+        key_at(&self.forks, k)
     }
 
     /// The k-th stirred object, from 0; None exactly from their number on. It takes time like k: a walk goes by
@@ -124,7 +125,7 @@ impl Facts {
     pub fn stirred(&self, k: usize) -> Option<Obj>
         ensures { result ≡ slice_get self.now.lists.stirred k }
     {
-        self.stirred.iter().nth(k).copied()
+        key_at(&self.stirred, k)
     }
 
     pub(super) fn holds_state(&self, cell: Cell, state: &State) -> bool
@@ -132,15 +133,6 @@ impl Facts {
     {
         match self.cells.get(&cell) {
             Some(held) => state.below(held),
-            None => false,
-        }
-    }
-
-    fn holds_target(&self, holder: Holder, target: Target) -> bool
-        ensures { IsTrue result ↔ Holds (view self.now.lists) (consequence (Part.Target holder target) Held.Nothing) }
-    {
-        match self.targets.get(&holder) {
-            Some(targets) => targets.has(target),
             None => false,
         }
     }
@@ -159,16 +151,22 @@ impl Facts {
         requires { IsFit self.now.lists.depth (consequence p.now h.now) }
         ensures { IsTrue result ↔ Holds (view self.now.lists) (consequence p.now h.now) }
     {
-        match (p, h) {
-            (Part::Cell(cell), Held::State(state)) => self.holds_state(*cell, state),
-            (Part::Target(holder, target), Held::Nothing) => self.holds_target(*holder, *target),
-            (Part::Installed(signal, function), Held::Installed(installed)) => {
-                self.holds_installed(*signal, *function, installed)
-            }
-            (Part::Thread(function), Held::Nothing) => self.threads.contains(function),
-            (Part::Fork(role, function), Held::Nothing) => self.forks.contains(&(*role, *function)),
-            (Part::Stirred(object), Held::Nothing) => self.stirred.contains(object),
-            _ => false,
+        match p {
+            Part::Cell(cell) => match h {
+                Held::State(state) => self.holds_state(*cell, state),
+                _ => false,
+            },
+            Part::Target(holder, target) => match self.targets.get(holder) {
+                Some(targets) => targets.items.contains(target),
+                None => false,
+            },
+            Part::Installed(signal, function) => match h {
+                Held::Installed(installed) => self.holds_installed(*signal, *function, installed),
+                _ => false,
+            },
+            Part::Thread(function) => self.threads.contains(function),
+            Part::Fork(role, function) => self.forks.contains(&(*role, *function)),
+            Part::Stirred(object) => self.stirred.contains(object),
         }
     }
 }

@@ -8,7 +8,7 @@ use Rattle.run_model.specs.Values.{Word, Int, Item, Value, Scalar, Signals, At, 
 use Rattle.run_model.specs.Arithmetic.{Operator}
 use Rattle.run_model.specs.Conversions.{Converts}
 use Rattle.run_model.specs.Code.{Code, Operation, Operand, OfNode, OfOne, Init, NoInit, FromValue, FromParts, FromList, Action, Pass, Take, Designate, Read, Assign, Change, Declare, Return, Close, function}
-use Rattle.run_model.specs.Objects.{Content, OfWord, OfSet, OfAction, OfItems, Object, items_of, Reads, Stores, Fresh}
+use Rattle.run_model.specs.Objects.{Content, OfWord, OfSet, OfAction, OfItems, Object, items_of, read_as, Reads, Stores, Fresh}
 use Rattle.run_model.specs.Places.{Env, Local, takes, wrote, writes, IsThere, designated, stands_as}
 use Rattle.run_model.specs.Expressions.{Gives, kind_between, Evaluates}
 
@@ -80,16 +80,17 @@ pub data Closes (code : Code) (f : ℕ) : Value → Value → Type 0 where
   main : f ≡ code.main → Closes code f NoValue (Scalar (Int (pos 0)))
   other : {v : Value} → f ≢ code.main → AnyOf (function code f).result v → Closes code f NoValue v
 
+-- errno is an int (7.5p2)
 pub data Does (code : Code) (env : Env) : Action → Local → Local → Type 0 where
   passes : {l : Local} → Does code env Pass l l
   takes_value : {n : ℕ} {op : Operation} {l : Local} {v : Value} → Evaluates code l (code.kind n) op v → Does code env (Take n op) l (takes l n v)
   designates : {n : ℕ} {l : Local} {v : Value} → designated code env l n ≡ Some v → Does code env (Designate n) l (takes l n (stands_as (code.kind n) v))
   reads : {n o : ℕ} {part : Part} {l : Local} {x : Object} {v : Value} → designated code env l n ≡ Some (At o part) → l.shared.objects o ≡ Some x → Reads x.content part (code.kind n) v → Does code env (Read n) l (takes l n v)
-  reads_errno : {n : ℕ} {l : Local} → designated code env l n ≡ Some AtErrno → Does code env (Read n) l (takes l n (Scalar (Int l.errno)))
+  reads_errno : {n : ℕ} {l : Local} → designated code env l n ≡ Some AtErrno → Does code env (Read n) l (takes l n (read_as (code.kind n) (Int l.errno)))
   assigns : {n t b o : ℕ} {part : Part} {l : Local} {x : Object} {v : Value} {y : Content} → l.vals t ≡ At o part → IsThere l.shared o x → is_value (l.vals b) ≡ true → Converts (code.kind b) (code.kind n) (l.vals b) v → Stores x.content part (code.kind n) v y → Does code env (Assign n t b) l (takes (writes l o x y) n v)
-  assigns_errno : (v : Value) {n t b : ℕ} {l : Local} {e : ℤ} → l.vals t ≡ AtErrno → is_value (l.vals b) ≡ true → Converts (code.kind b) (code.kind n) (l.vals b) v → IsErrno v e → Does code env (Assign n t b) l (takes (record l { errno = e }) n (Scalar (Int e)))
+  assigns_errno : (v : Value) {n t b : ℕ} {l : Local} {e : ℤ} → l.vals t ≡ AtErrno → is_value (l.vals b) ≡ true → Converts (code.kind b) (Number int) (l.vals b) v → IsErrno v e → Does code env (Assign n t b) l (takes (record l { errno = e }) n (read_as (code.kind n) (Int e)))
   changes : (v w : Value) {n t o : ℕ} {op : Operator} {b : Operand} {old : Bool} {part : Part} {l : Local} {x : Object} {y : Content} → l.vals t ≡ At o part → IsThere l.shared o x → Reads x.content part (code.kind n) v → Changes code l (code.kind n) op b v w → Stores x.content part (code.kind n) w y → Does code env (Change n t op b old) l (takes (writes l o x y) n (cond old v w))
-  changes_errno : (w : Value) {n t : ℕ} {op : Operator} {b : Operand} {old : Bool} {l : Local} {e : ℤ} → l.vals t ≡ AtErrno → Changes code l (code.kind n) op b (Scalar (Int l.errno)) w → IsErrno w e → Does code env (Change n t op b old) l (takes (record l { errno = e }) n (Scalar (Int (cond old l.errno e))))
+  changes_errno : (w : Value) {n t : ℕ} {op : Operator} {b : Operand} {old : Bool} {l : Local} {e : ℤ} → l.vals t ≡ AtErrno → Changes code l (Number int) op b (Scalar (Int l.errno)) w → IsErrno w e → Does code env (Change n t op b old) l (takes (record l { errno = e }) n (read_as (code.kind n) (Int (cond old l.errno e))))
   declares : {v o : ℕ} {init : Init} {l : Local} {x : Object} {y : Content} → env.locals v ≡ Some o → l.shared.objects o ≡ Some x → Declares code l x.kind init x.content y → Does code env (Declare v init) l (declared init l o x y)
   returns : (v : Value) {f e : ℕ} {l : Local} → is_value (l.vals e) ≡ true → Converts (code.kind e) (function code f).result (l.vals e) v → Does code env (Return f e) l (takes l (function code f).node v)
   closes : {f : ℕ} {l : Local} {v : Value} → Closes code f (l.vals (function code f).node) v → Does code env (Close f) l (takes l (function code f).node v)

@@ -178,7 +178,8 @@ pub record Static : Type 0 where
   pub initial : Initial
 
 pub record Code : Type 0 where
-  pub has : Pos → Bool
+  -- the function f has the position
+  pub has : (f : ℕ) → Pos → Bool
   pub next : Pos → List Edge
   pub action : (from to : Pos) → Action
   pub kind : (n : ℕ) → Kind

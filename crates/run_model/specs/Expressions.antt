@@ -27,16 +27,18 @@ abbrev pub are_numbers : Kind → Kind → Bool
 are_numbers (Number s) (Number t) = true
 are_numbers _ _ = false
 
--- the type of an operator's result
+-- the type of an operator's result: int for comparisons (6.5.8p6, 6.5.9p3), for a pointer and an integer a pointer, for two pointers long (6.5.6p8, p9)
+abbrev pub arithmetic_kind : Operator → Kind → Kind → Kind
+arithmetic_kind op (Number s) (Number t) = Number (result_type op s t)
+arithmetic_kind Subtracts Pointer (Number t) = Pointer
+arithmetic_kind Subtracts ArrayKind (Number t) = Pointer
+arithmetic_kind Subtracts k m = Number long
+arithmetic_kind op k m = Pointer
+
 abbrev pub kind_between : Operator → Kind → Kind → Kind
-kind_between op (Number s) (Number t) = Number (result_type op s t)
 kind_between (Equals n) k m = Number int
 kind_between (Orders o) k m = Number int
-kind_between Adds (Number s) m = m
-kind_between Subtracts Pointer (Number t) = Pointer
-kind_between Subtracts ArrayKind (Number t) = Pointer
-kind_between Subtracts k m = Number long
-kind_between op k m = k
+kind_between op k m = arithmetic_kind op k m
 
 -- an operator on two words of these types. A pointer designates a whole object, so an integer that is added leaves it; a pointer differs from
 -- every integer and function, and of two pointers neither equality nor order is known

@@ -25,3 +25,5 @@ pub mod Runs
 pub mod Unsafe
 pub mod References
 pub mod Breaches
+pub mod Owed
+pub mod Laws

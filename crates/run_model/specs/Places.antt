@@ -63,10 +63,14 @@ abbrev pub member_of : Objects → Value → Member → Option Value
 member_of objects (At o part) m = member_place (objects o) o part m
 member_of objects v m = None
 
+abbrev pub unless : Bool → Value → Option Value
+unless true v = None
+unless false v = Some v
+
+-- nothing where the object is gone
 abbrev pub if_alive : Option Object → ℕ → Member → Option Value
 if_alive None o m = None
-if_alive (Some (record { gone = true })) o m = None
-if_alive (Some x) o m = Some (At o (part_of x.kind Whole m))
+if_alive (Some x) o m = unless x.gone (At o (part_of x.kind Whole m))
 
 abbrev pub behind : Objects → Value → Member → Option Value
 behind objects (Scalar (Ptr o)) m = if_alive (objects o) o m

@@ -1,6 +1,6 @@
 -- The steps of a process: one of its threads steps, a thread starts or ends, the process is copied or ends (POSIX.1-2017 XSH pthread_create,
 -- fork, exec, exit; C11 5.1.2.2.3, 7.22.4).
-use Rattle.std.specs.Prelude.{◌≡◌, ◌≢◌, ◌⊎◌, ℕ, ℤ, pos, negsuc, ◌≤ℤ◌, List, [], ◌∷◌, ◌++◌, length, Option, Some, None, Bool, true, ◌||◌, nat_lt, Contains}
+use Rattle.std.specs.Prelude.{◌≡◌, ◌≢◌, ◌⊎◌, ℕ, ℤ, pos, negsuc, ◌≤ℤ◌, List, [], ◌∷◌, ◌++◌, length, Option, Some, None, Bool, true, false, ◌||◌, nat_lt, Contains}
 use Rattle.base_core.specs.declared.id.Pos.{Pos}
 use Rattle.base_core.specs.declared.id.Phase.TheVariants.{In0, Finish}
 use Rattle.posix_table.specs.declared.kind.Effect.{Effect}
@@ -62,7 +62,7 @@ pub data ProcessStep (code : Code) : Process → Label → Option Process → Li
       → ThreadStep code a t k b u
       → ProcessStep code (process a confined (left ++ t ∷ right)) (labelled k a confined (left ++ t ∷ right) t u) (Some (process b confined (left ++ u ∷ right))) []
   -- into In0 of pthread_create: a thread starts, with its creator's mask and any errno; where none does, the creator goes on by `steps`
-  starts : (left right : List Thread) {a : Shared} {confined : Bool} {mask : Mask} {errno errno' : ℤ} {f : ℕ} {w : Word} {to : Pos} {call : LibraryCall} {locals : ℕ → Option ℕ} {objects : Objects} {top : Frame} {rest : List Frame}
+  starts : (left right : List Thread) (errno' : ℤ) {a : Shared} {confined : Bool} {mask : Mask} {errno : ℤ} {f : ℕ} {w : Word} {to : Pos} {call : LibraryCall} {locals : ℕ → Option ℕ} {objects : Objects} {top : Frame} {rest : List Frame}
       → Goes code top.pos top.vals to → code.action top.pos to ≡ Into to.node.0
       → code.call to.node.0 ≡ Library call → call.row.effect ≡ effect.Thread → AreThere a (givens call top.vals)
       → argument call top.vals 2 ≡ Scalar (Fn f) → starts_thread code f ≡ true → argument call top.vals 3 ≡ Scalar w → InRange int errno'

@@ -14,7 +14,7 @@ pub data IsConstant (code : Code) : StaticValue → Word → Type 0 where
   integer : {i : ℤ} → IsConstant code (ConstantInt i) (Int i)
   any : {k : Kind} {w : Word} → AnyOf k (Scalar w) → IsConstant code (ConstantAny k) w
   address : {origin : Origin} {o : ℕ} → static code origin ≡ Some o → IsConstant code (ConstantAddress origin) (Ptr o)
-  function : {f : ℕ} → IsConstant code (ConstantFunction f) (Fn f)
+  function_name : {f : ℕ} → IsConstant code (ConstantFunction f) (Fn f)
 
 pub data AreConstants (code : Code) : List StaticValue → List Item → Type 0 where
   none : AreConstants code [] []
@@ -22,7 +22,7 @@ pub data AreConstants (code : Code) : List StaticValue → List Item → Type 0 
 
 -- what a static object begins with; a set is any set
 pub data Begins (code : Code) : Initial → Kind → Content → Type 0 where
-  zero_word : {k : Kind} → is_word k ≡ true → Begins code ZeroInitial k (OfWord zero_word)
+  zero_scalar : {k : Kind} → is_word k ≡ true → Begins code ZeroInitial k (OfWord zero_word)
   zero_set : {m : Mask} → Begins code ZeroInitial SetKind (OfSet m)
   zero_action : {m : Mask} → Begins code ZeroInitial ActionKind (OfAction zero_word m (pos 0))
   zero_array : Begins code ZeroInitial ArrayKind (OfItems [])

@@ -1,5 +1,6 @@
 -- The steps of one thread: its top frame goes along an edge, a frame begins (a call, an arrival, a fork handler), or the top frame leaves.
-use Rattle.std.specs.Prelude.{◌≡◌, ◌≢◌, ℕ, ℤ, pos, List, [], ◌∷◌, Option, Some, None, Bool, true, false, All, Contains}
+use Rattle.std.specs.Prelude.{◌≡◌, ◌≢◌, ℕ, ℤ, pos, List, [], ◌∷◌, Option, Some, None, Bool, true, false, Contains}
+use Rattle.std.specs.List.{AllByRecursion}
 use Rattle.base_core.specs.declared.id.Pos.{Pos}
 use Rattle.base_core.specs.declared.id.Phase.TheVariants.{In0, Leave}
 use Rattle.posix_table.specs.declared.kind.Effect.TheVariants as effect
@@ -24,7 +25,7 @@ IsMet Always vals = Unit {0}
 IsMet (Nonzero n) vals = vals n ≢ Scalar (Int (pos 0))
 IsMet (Zero n) vals = vals n ≡ Scalar (Int (pos 0))
 IsMet (Equal n i) vals = vals n ≡ Scalar (Int i)
-IsMet (NoneOf n cases) vals = All (λ (i : ℤ). vals n ≢ Scalar (Int i)) cases
+IsMet (NoneOf n cases) vals = AllByRecursion (λ (i : ℤ). vals n ≢ Scalar (Int i)) cases
 
 -- an edge leads there whose guard the values meet
 pub record Goes (code : Code) (from : Pos) (vals : Values) (to : Pos) : Type 0 where

@@ -1,0 +1,8 @@
+mod Lists
+mod Kept
+mod Laws
+mod Positions
+mod Ranges
+mod Fits
+mod Integers
+mod Starts

@@ -1,5 +1,5 @@
 -- Prefixes, ends, and what the frame of an arrival keeps.
-use Rattle.std.proofs.Common.{◌≡◌, ℕ, List, [], ◌∷◌, ◌++◌, refl, arith}
+use Rattle.std.proofs.Common.{◌≡◌, ℕ, List, [], ◌∷◌, ◌++◌, refl, sym, subst, arith, false}
 use Rattle.std.specs.Prelude.{Option, Some, None, ℤ, Contains}
 use Rattle.run_model.specs.Signals.{Mask}
 use Rattle.run_model.specs.Code.{Code}
@@ -70,32 +70,33 @@ thread_mask (ThreadStep.handled {top = f} how' leaves) e top rest sig saved errn
 process_mask : {code : Code} {q : Process} {l : Label} {r : Option Process} {new : List Process} → ProcessStep code q l r new → l.kind ≡ Leaves → (top : Frame) (rest : List Frame) (sig : ℕ) (saved : Mask) (errno : ℤ)
     → l.before.stack ≡ top ∷ rest → top.how ≡ Arrived sig saved errno → (l.after.mask ≡ saved) × (l.after.errno ≡ l.before.errno) × (l.after.stack ≡ rest)
 process_mask (ProcessStep.steps left right s) e top rest sig saved errno is how = thread_mask s e top rest sig saved errno is how
-process_mask (ProcessStep.starts left right errno' g a c f there is fits arg range made) e = absurd cc
-process_mask (ProcessStep.forks left right is at none out) e = absurd cc
-process_mask (ProcessStep.thread_ends before after is at none) e = absurd cc
-process_mask (ProcessStep.ends has is may) e = absurd cc
+process_mask (ProcessStep.starts left right errno' g a c f there is fits arg range made) e top rest sig saved errno on how = absurd cc
+process_mask (ProcessStep.forks left right is at none out) e top rest sig saved errno on how = absurd cc
+process_mask (ProcessStep.thread_ends before after is at none) e top rest sig saved errno on how = absurd cc
+process_mask (ProcessStep.ends has is may) e top rest sig saved errno on how = absurd cc
 
 pub mask_comes_back : MaskComesBack
 mask_comes_back code w w' l top rest sig saved errno (Step.step left right s) e is how = process_mask s e top rest sig saved errno is how
 
 thread_arrival : {code : Code} {a b : Shared} {t u : Thread} {k : StepKind} → ThreadStep code a t k b u → k ≡ Begins → (top : Frame) (rest : List Frame) (sig : ℕ) (saved : Mask) (errno : ℤ)
-    → u.stack ≡ top ∷ rest → top.how ≡ Arrived sig saved errno → (saved ≡ t.mask) × (errno ≡ t.errno) × (rest ≡ t.stack)
+    → u.stack ≡ top ∷ rest → top.how ≡ Arrived sig saved errno → (saved ≡ t.mask) × (errno ≡ t.errno) × (rest ≡ t.stack) × (saved sig ≡ false)
 thread_arrival (ThreadStep.moves g a) e top rest sig saved errno is how = absurd cc
 thread_arrival {code} (ThreadStep.calls {f = f} {locals = locals} phase call calls made passes) e top rest sig saved errno is how = let p : begin code f Called locals ≡ top = cc in absurd cc
 thread_arrival (ThreadStep.returns v how' leaves converts) e top rest sig saved errno is how = absurd cc
 thread_arrival {code} (ThreadStep.arrives o p {mask = m} {errno = i} {sig = s} {f = f} {locals = locals} {top = g} {rest = gs} unblocked handler takes defers free free' made) e top rest sig saved errno is how =
-    let q : begin code f (Arrived s m i) locals ≡ top = cc in let r : Arrived s m i ≡ Arrived sig saved errno = cc in let a : m ≡ saved = cc in let b : i ≡ errno = cc in let c : g ∷ gs ≡ rest = cc in (sym a, sym b, sym c)
+    let q : begin code f (Arrived s m i) locals ≡ top = cc in let r : Arrived s m i ≡ Arrived sig saved errno = cc in let a : m ≡ saved = cc in let b : i ≡ errno = cc in let c : g ∷ gs ≡ rest = cc in let d : s ≡ sig = cc in
+    (sym a, sym b, sym c, subst (λ (n : ℕ). saved n ≡ false) d (subst (λ (x : Mask). x s ≡ false) a unblocked))
 thread_arrival (ThreadStep.resumes how' leaves) e top rest sig saved errno is how = absurd cc
 thread_arrival {code} (ThreadStep.handles {f = f} {r = r} {locals = locals} fork runs next fits made) e top rest sig saved errno is how = let p : begin code f (Handles r) locals ≡ top = cc in absurd cc
 thread_arrival (ThreadStep.handled how' leaves) e top rest sig saved errno is how = absurd cc
 
 process_arrival : {code : Code} {q : Process} {l : Label} {r : Option Process} {new : List Process} → ProcessStep code q l r new → l.kind ≡ Begins → (top : Frame) (rest : List Frame) (sig : ℕ) (saved : Mask) (errno : ℤ)
-    → l.after.stack ≡ top ∷ rest → top.how ≡ Arrived sig saved errno → (saved ≡ l.before.mask) × (errno ≡ l.before.errno) × (rest ≡ l.before.stack)
+    → l.after.stack ≡ top ∷ rest → top.how ≡ Arrived sig saved errno → (saved ≡ l.before.mask) × (errno ≡ l.before.errno) × (rest ≡ l.before.stack) × (saved sig ≡ false)
 process_arrival (ProcessStep.steps left right s) e top rest sig saved errno is how = thread_arrival s e top rest sig saved errno is how
-process_arrival (ProcessStep.starts left right errno' g a c f there is fits arg range made) e = absurd cc
-process_arrival (ProcessStep.forks left right is at none out) e = absurd cc
-process_arrival (ProcessStep.thread_ends before after is at none) e = absurd cc
-process_arrival (ProcessStep.ends has is may) e = absurd cc
+process_arrival (ProcessStep.starts left right errno' g a c f there is fits arg range made) e top rest sig saved errno on how = absurd cc
+process_arrival (ProcessStep.forks left right is at none out) e top rest sig saved errno on how = absurd cc
+process_arrival (ProcessStep.thread_ends before after is at none) e top rest sig saved errno on how = absurd cc
+process_arrival (ProcessStep.ends has is may) e top rest sig saved errno on how = absurd cc
 
 pub arrivals_keep_mask : ArrivalsKeepMask
 arrivals_keep_mask code w w' l top rest sig saved errno (Step.step left right s) e is how = process_arrival s e top rest sig saved errno is how

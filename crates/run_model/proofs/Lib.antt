@@ -6,3 +6,4 @@ mod Ranges
 mod Fits
 mod Integers
 mod Starts
+mod StepLaws

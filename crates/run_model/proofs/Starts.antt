@@ -1,6 +1,6 @@
 -- Every program has a world that its runs start from.
 use Rattle.std.proofs.Common.{◌≡◌, ℕ, ◌<◌, ◌≤◌, List, [], ◌∷◌, refl, sym, subst, arith, Bool, true, false, length, cond, nat_eq}
-use Rattle.std.specs.Prelude.{◌≢◌, ℤ, pos, Option, Some, None, slice_get, suc, nat_lt, if◌then◌else◌}
+use Rattle.std.specs.Prelude.{◌≢◌, ℤ, pos, Option, Some, None, slice_get, zero, suc, nat_lt, if◌then◌else◌}
 use Rattle.std.proofs.lemmas.Bool.{lt-ltb, eqb-true}
 use Rattle.std.proofs.lemmas.Nat.{pow_pos}
 use Rattle.c_arithmetic.specs.declared.types.IntType.{IntType}
@@ -29,9 +29,9 @@ zero_in t = by_sign t.signed
 
 first_content : (k : Kind) → k ≢ Void → (x : Content) × Fresh k x
 first_content Void h = absurd (h refl)
-first_content (Number t) h = (OfWord zero_word, Fresh.word refl (pos 0, (zero_in t, refl)))
-first_content Pointer h = (OfWord zero_word, Fresh.word refl (pos 0, (refl, refl)))
-first_content FnPointer h = (OfWord zero_word, Fresh.word refl (pos 0, (refl, refl)))
+first_content (Number t) h = (OfWord zero_word, Fresh.word refl (pos 0, zero_in t, refl))
+first_content Pointer h = (OfWord zero_word, Fresh.word refl (pos 0, refl, refl))
+first_content FnPointer h = (OfWord zero_word, Fresh.word refl (pos 0, refl, refl))
 first_content SetKind h = (OfSet no_signal, Fresh.set)
 first_content ActionKind h = (OfAction zero_word no_signal (pos 0), Fresh.action refl refl)
 first_content ArrayKind h = (OfItems [], Fresh.array)
@@ -49,11 +49,16 @@ contents code (s ∷ ss) h = let c = contents code ss h.1 in record { xs = h.0.0
 
 -- ---- the objects of main's frame, from a number on from which there is none
 
-IsFree : ℕ → Objects → Type 0
+abbrev IsFree : ℕ → Objects → Type 0
 IsFree n objects = (o : ℕ) → n ≤ o → objects o ≡ None
 
+no_less : (n : ℕ) → suc n ≤ 0 → ⊥
+no_less n h = omega (arith, h)
+
 beyond : {A : Type 0} (xs : List A) (o : ℕ) → length xs ≤ o → slice_get xs o ≡ None
-beyond xs o h = grind arith
+beyond [] o h = refl
+beyond (x ∷ xs) zero h = absurd (no_less (length xs) h)
+beyond (x ∷ xs) (suc o) h = beyond xs o (omega (arith, h))
 
 static_none : (s : Option Static) (x : Option Content) → s ≡ None → static_object s x ≡ None
 static_none None x e = refl
@@ -69,8 +74,11 @@ record Made (code : Code) (vs : List ℕ) (before : Objects) : Type 0 where
   made : Makes code false vs before locals objects
   free : IsFree next objects
 
+not_more : (n o : ℕ) → suc n ≤ o → o ≡ n → ⊥
+not_more n o p q = omega (arith, p, q)
+
 another : (n o : ℕ) (x : Object) (objects : Objects) → IsFree n objects → suc n ≤ o → (b : Bool) → nat_eq o n ≡ b → cond b (Some x) (objects o) ≡ None
-another n o x objects h p true e = let q : o ≡ n = eqb-true o n e in omega (arith, p, q)
+another n o x objects h p true e = let q : o ≡ n = eqb-true o n e in absurd (not_more n o p q)
 another n o x objects h p false e = h o (omega (arith, p))
 
 made : (code : Code) → IsCode code → (vs : List ℕ) (n : ℕ) (before : Objects) → IsFree n before → Made code vs before

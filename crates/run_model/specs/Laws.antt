@@ -1,5 +1,5 @@
 -- What holds of all runs.
-use Rattle.std.specs.Prelude.{◌≡◌, ℕ, ℤ, List, [], ◌∷◌, ◌++◌, Option, None, Bool, true}
+use Rattle.std.specs.Prelude.{◌≡◌, ℕ, ℤ, List, [], ◌∷◌, ◌++◌, Option, None, Bool, true, false}
 use Rattle.std.specs.List.{AllByRecursion}
 use Rattle.c_arithmetic.specs.declared.types.IntType.{IntType}
 use Rattle.c_arithmetic.specs.Types.{int}
@@ -54,10 +54,10 @@ abbrev pub MaskComesBack : Type 0
 MaskComesBack = (code : Code) (w w' : World) (l : Label) (top : Frame) (rest : List Frame) (sig : ℕ) (saved : Mask) (errno : ℤ) → Step code w l w' → l.kind ≡ Leaves
     → l.before.stack ≡ top ∷ rest → top.how ≡ Arrived sig saved errno → (l.after.mask ≡ saved) × (l.after.errno ≡ l.before.errno) × (l.after.stack ≡ rest)
 
--- and the mask and errno that the frame of an arrival keeps are those of its thread before it
+-- the mask and errno that the frame of an arrival keeps are those of its thread before it, and the signal wasn't blocked
 abbrev pub ArrivalsKeepMask : Type 0
 ArrivalsKeepMask = (code : Code) (w w' : World) (l : Label) (top : Frame) (rest : List Frame) (sig : ℕ) (saved : Mask) (errno : ℤ) → Step code w l w' → l.kind ≡ Begins
-    → l.after.stack ≡ top ∷ rest → top.how ≡ Arrived sig saved errno → (saved ≡ l.before.mask) × (errno ≡ l.before.errno) × (rest ≡ l.before.stack)
+    → l.after.stack ≡ top ∷ rest → top.how ≡ Arrived sig saved errno → (saved ≡ l.before.mask) × (errno ≡ l.before.errno) × (rest ≡ l.before.stack) × (saved sig ≡ false)
 
 -- what comes before a place in a run is a run
 abbrev pub PrefixesAreRuns : Type 0

@@ -27,3 +27,4 @@ pub mod References
 pub mod Breaches
 pub mod Owed
 pub mod Laws
+pub mod StepLaws

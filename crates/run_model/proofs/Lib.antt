@@ -7,3 +7,5 @@ mod Fits
 mod Integers
 mod Starts
 mod StepLaws
+mod Paths
+mod Examples

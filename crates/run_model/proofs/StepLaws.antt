@@ -1,5 +1,5 @@
 -- Masks, dispositions, fork handlers, copies and ends.
-use Rattle.std.proofs.Common.{◌≡◌, ℕ, List, [], ◌∷◌, ◌++◌, refl, sym, subst, ap, ◌∙◌, arith, Bool, true, false, cond, nat_eq, length, true-eqb, inl, inr}
+use Rattle.std.proofs.Common.{◌≡◌, ℕ, List, [], ◌∷◌, ◌++◌, refl, sym, subst, ap, ◌∙◌, arith, Bool, true, false, cond, nat_eq, length, eq-eqb, inl, inr}
 use Rattle.std.proofs.lemmas.Bool.{eqb-true}
 use Rattle.std.specs.Prelude.{◌⊎◌, ℤ, Option, Some, None, ◌||◌, not, Contains}
 use Rattle.std.specs.List.{AllByRecursion}
@@ -35,7 +35,7 @@ in_mask mask d sig k true h = in_union (nat_eq k sig) (mask k || d.mask k) (inr 
 in_mask mask d sig k false h = in_union (mask k) (d.mask k) h
 
 same_number : (k : ℕ) → nat_eq k k ≡ true
-same_number k = true-eqb k k refl
+same_number k = eq-eqb k k refl
 
 own_signal : (mask : Mask) (d : Disposition) (sig k : ℕ) {blocks resets : Bool} → Defers sig d blocks resets → k ≡ sig → d.by ≡ Setter.BySigaction → has_flag d.flags sa_nodefer ≡ false → has_flag d.flags sa_resethand ≡ false
     → mask_in_handler mask d sig blocks k ≡ true

@@ -28,3 +28,5 @@ pub mod Breaches
 pub mod Owed
 pub mod Laws
 pub mod StepLaws
+pub mod Outlines
+pub mod Examples

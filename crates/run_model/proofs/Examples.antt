@@ -23,7 +23,7 @@ use Rattle.run_model.specs.ThreadSteps.{Passes, Acts, ThreadStep}
 use Rattle.run_model.specs.ProcessSteps.{Outcome, ProcessStep}
 use Rattle.run_model.specs.Runs.{Step}
 use Rattle.run_model.specs.Outlines.{Outline, program, HasRun}
-use Rattle.run_model.specs.Examples.{sigint, sigsegv, rand, getpid, close_call, wtermsig, sigprocmask, pthread_sigmask, one_handler, two_handlers, writes_static, with_argument, helper_assigns, forks_and_calls, spawns_and_calls, fork_handler, masks}
+use Rattle.run_model.specs.Examples.{sigint, sigsegv, rand, getpid, close_call, wtermsig, sigprocmask, pthread_sigmask, one_handler, two_handlers, writes_static, with_argument, helper_assigns, forks_and_calls, spawns_and_calls, fork_handler, masks, RunsThatBreakARule, RunsThatBreakNone}
 use Rattle.run_model.proofs.Paths.{Path, run_of, goes_of, along, false_true, int_pointer, not_zero, is_value, apart}
 
 -- main begins with nothing blocked and with errno 0
@@ -413,3 +413,9 @@ path_pthread_sigmask_among_threads =
 pub pthread_sigmask_among_threads : HasRun (masks pthread_sigmask) Usual 10 []
 unfolding path_pthread_sigmask_among_threads
 pthread_sigmask_among_threads = record { first = start (masks pthread_sigmask); run = run_of path_pthread_sigmask_among_threads; is = record { start = starts (masks pthread_sigmask) refl refl; goes = goes_of path_pthread_sigmask_among_threads }; long = refl; breaks = refl }
+
+pub breaking : RunsThatBreakARule
+breaking = record { rand_in_exit = rand_in_exit; rand_in_helper_of_nested_handler = rand_in_helper_of_nested_handler; static_assigned = static_assigned; errno_changed = errno_changed; errno_changed_by_helper = errno_changed_by_helper; rand_in_child = rand_in_child; rand_in_child_behind_helper = rand_in_child_behind_helper; rand_in_prepare_handler = rand_in_prepare_handler; sigprocmask_among_threads = sigprocmask_among_threads; fault_handler_returns = fault_handler_returns }
+
+pub mended : RunsThatBreakNone
+mended = record { getpid_in_exit = getpid_in_exit; getpid_in_helper_of_nested_handler = getpid_in_helper_of_nested_handler; flag_assigned = flag_assigned; errno_left = errno_left; errno_kept_by_helper = errno_kept_by_helper; getpid_in_child = getpid_in_child; getpid_in_child_behind_helper = getpid_in_child_behind_helper; getpid_in_prepare_handler = getpid_in_prepare_handler; pthread_sigmask_among_threads = pthread_sigmask_among_threads }

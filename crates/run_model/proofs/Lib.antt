@@ -9,3 +9,4 @@ mod Starts
 mod StepLaws
 mod Paths
 mod Examples
+mod Cases

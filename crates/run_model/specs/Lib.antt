@@ -30,3 +30,4 @@ pub mod Laws
 pub mod StepLaws
 pub mod Outlines
 pub mod Examples
+pub mod Cases

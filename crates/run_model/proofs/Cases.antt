@@ -1,16 +1,15 @@
 -- What the definitions say of the cases.
 use Rattle.std.proofs.Common.{◌≡◌, ℕ, List, [], ◌∷◌, refl, sym, ap, subst, ◌∙◌, Bool, true, false, not, ◌&&◌}
-use Rattle.std.specs.Prelude.{◌≢◌, ℤ, pos, negsuc, Option, Some, None}
+use Rattle.std.specs.Prelude.{ℤ, pos, negsuc, Some}
 use Rattle.posix_table.specs.declared.kind.Param.TheVariants as letter
 use Rattle.posix_table.specs.declared.kind.Effect.{Effect}
-use Rattle.c_arithmetic.specs.Types.{int, long}
+use Rattle.c_arithmetic.specs.Types.{int}
 use Rattle.run_model.specs.Signals.{sigill, sigtrap}
-use Rattle.run_model.specs.Kinds.{Kind, Number, Pointer, ArrayKind, Whole}
+use Rattle.run_model.specs.Kinds.{Kind, Number, ArrayKind, Whole}
 use Rattle.run_model.specs.Values.{Word, Int, Ptr, Fn, Value, Scalar, Signals, Items, At, AtErrno, NoValue, Item, AWord, AnyOf, truth, zero_word}
 use Rattle.run_model.specs.Values as values
 use Rattle.run_model.specs.Arithmetic.{Operator, Equals, Subtracts, equality}
-use Rattle.run_model.specs.Conversions.{Converts}
-use Rattle.run_model.specs.Code.{Code, Operation, Keep, Init, FromValue, function}
+use Rattle.run_model.specs.Code.{Code, Keep, FromValue}
 use Rattle.run_model.specs.Objects.{Content, OfItems, Reads, Stores}
 use Rattle.run_model.specs.World.{Setter, Disposition}
 use Rattle.run_model.specs.Places.{Local}

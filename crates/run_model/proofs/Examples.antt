@@ -1,12 +1,12 @@
 -- The runs of the examples, step by step.
 use Rattle.std.proofs.Common.{◌≡◌, ℕ, List, [], ◌∷◌, refl, sym, subst, Bool, true, false}
-use Rattle.std.specs.Prelude.{ℤ, pos, Option, Some, None}
-use Rattle.base_core.specs.declared.id.Phase.TheVariants.{Enter, In0, In1, Leave, Finish}
+use Rattle.std.specs.Prelude.{pos}
+use Rattle.base_core.specs.declared.id.Phase.TheVariants.{In0, Leave, Finish}
 use Rattle.base_core.specs.declared.rules.Rule.TheVariants.{U, S, E, F, A, M, R}
 use Rattle.base_core.specs.declared.rules.Rules.TheVariants.{Usual}
 use Rattle.run_model.specs.Signals.{no_signal}
 use Rattle.run_model.specs.Values.{Int, Scalar, NoValue, zero_word}
-use Rattle.run_model.specs.Code.{Code, Static, at, function, Constant, Take, Read}
+use Rattle.run_model.specs.Code.{Static, at, function, Constant, Take, Read}
 use Rattle.run_model.specs.World.{World, Prepare}
 use Rattle.run_model.specs.Objects.{OfWord, Stores}
 use Rattle.run_model.specs.Frames.{Makes, no_locals}
@@ -17,7 +17,7 @@ use Rattle.run_model.specs.LibraryWrites.{Writes}
 use Rattle.run_model.specs.Masks.{MaskAfter}
 use Rattle.run_model.specs.Installs.{Sets, Installs}
 use Rattle.run_model.specs.Forks.{ForksAfter}
-use Rattle.run_model.specs.LibrarySteps.{Enters, Results, CallReturns, LibraryDoes}
+use Rattle.run_model.specs.LibrarySteps.{Enters, Results, LibraryDoes}
 use Rattle.run_model.specs.Arrivals.{Defers}
 use Rattle.run_model.specs.ThreadSteps.{Passes, Acts, ThreadStep}
 use Rattle.run_model.specs.ProcessSteps.{Outcome, ProcessStep}
@@ -32,9 +32,17 @@ start o = start_process (program o) no_signal (pos 0) (pos 1) no_locals (static_
 
 starts : (o : Outline) → o.statics ≡ [] → (function (program o) 0).locals ≡ [] → IsStart (program o) (start o)
 starts o e f = record {
-  mask = no_signal; errno = pos 0; argc = pos 1; contents = []; locals = no_locals; objects = static_objects (program o) [];
-  errno_range = refl; argc_range = refl; begins = subst (λ (ss : List Static). AllBegin (program o) ss []) (sym e) AllBegin.none;
-  fresh = subst (λ (vs : List ℕ). Makes (program o) false vs (static_objects (program o) []) no_locals (static_objects (program o) [])) (sym f) Makes.none; is = refl;
+  mask = no_signal;
+  errno = pos 0;
+  argc = pos 1;
+  contents = [];
+  locals = no_locals;
+  objects = static_objects (program o) [];
+  errno_range = refl;
+  argc_range = refl;
+  begins = subst (λ (ss : List Static). AllBegin (program o) ss []) (sym e) AllBegin.none;
+  fresh = subst (λ (vs : List ℕ). Makes (program o) false vs (static_objects (program o) []) no_locals (static_objects (program o) [])) (sym f) Makes.none;
+  is = refl;
 }
 
 abbrev start_with_zero : Outline → World
@@ -42,8 +50,17 @@ start_with_zero o = start_process (program o) no_signal (pos 0) (pos 1) no_local
 
 starts_with_zero : (flag : Bool) → IsStart (program (writes_static flag)) (start_with_zero (writes_static flag))
 starts_with_zero flag = record {
-  mask = no_signal; errno = pos 0; argc = pos 1; contents = OfWord zero_word ∷ []; locals = no_locals; objects = _;
-  errno_range = refl; argc_range = refl; begins = AllBegin.one (Begins.zero_scalar refl) AllBegin.none; fresh = Makes.none; is = refl;
+  mask = no_signal;
+  errno = pos 0;
+  argc = pos 1;
+  contents = OfWord zero_word ∷ [];
+  locals = no_locals;
+  objects = _;
+  errno_range = refl;
+  argc_range = refl;
+  begins = AllBegin.one (Begins.zero_scalar refl) AllBegin.none;
+  fresh = Makes.none;
+  is = refl;
 }
 
 path_rand_in_exit : Path (program (one_handler sigint rand)) (start (one_handler sigint rand))

@@ -1,10 +1,8 @@
 -- An integer that a step gives lies in its type.
-use Rattle.std.proofs.Common.{◌≡◌, ℕ, ◌<◌, List, [], ◌∷◌, refl, sym, subst, ◌∙◌, arith, Bool, true, false, cond}
-use Rattle.std.specs.Prelude.{◌≢◌, ℤ, ◌≤ℤ◌, pos, negsuc, not, nat_eq, Option, Some, None}
+use Rattle.std.proofs.Common.{◌≡◌, ℕ, ◌<◌, refl, sym, subst, ◌∙◌, arith, Bool, true, false, cond}
+use Rattle.std.specs.Prelude.{ℤ, ◌≤ℤ◌, pos, negsuc, not, nat_eq}
 use Rattle.std.proofs.lemmas.Bool.{lt-ltb, ltb-true, eqb-true}
 use Rattle.base_core.specs.declared.id.Pos.{Pos}
-use Rattle.posix_table.specs.declared.kind.ResultKind.{ResultKind}
-use Rattle.posix_table.specs.declared.kind.ResultKind.TheVariants as result
 use Rattle.c_arithmetic.specs.declared.types.IntType.{IntType}
 use Rattle.c_arithmetic.specs.Types.{int, long, unsigned_long, promoted}
 use Rattle.c_arithmetic.specs.Conversion.{converted}
@@ -13,12 +11,12 @@ use Rattle.run_model.specs.Values.{Word, Int, Ptr, Fn, Value, Scalar, Signals, I
 use Rattle.run_model.specs.Values as values
 use Rattle.run_model.specs.Arithmetic.{Operator, Equals, Orders, Adds, Subtracts, Computes, equality, result_type}
 use Rattle.run_model.specs.Conversions.{wrapped, ToNumber, Converts}
-use Rattle.run_model.specs.Code.{Code, Operation, Keep, function}
+use Rattle.run_model.specs.Code.{Code, Operation}
 use Rattle.run_model.specs.World.{keep}
 use Rattle.run_model.specs.Objects.{Content, read_as, Reads}
-use Rattle.run_model.specs.Places.{Env, Local, stands_as, as_pointer}
-use Rattle.run_model.specs.Expressions.{same_word, are_numbers, arithmetic_kind, kind_between, Gives, Evaluates}
-use Rattle.run_model.specs.Owed.{HasType, InKind, ResultType}
+use Rattle.run_model.specs.Places.{Local, stands_as, as_pointer}
+use Rattle.run_model.specs.Expressions.{same_word, kind_between, Gives, Evaluates}
+use Rattle.run_model.specs.Owed.{HasType, InKind}
 use Rattle.run_model.proofs.Ranges.{converted_in_range, two_in_range, one_in_range}
 
 -- an integer of this kind lies in its type

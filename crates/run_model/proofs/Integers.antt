@@ -1,6 +1,6 @@
 -- In each world of a run each integer that a node has as its value lies in the node's type, and errno is an int.
-use Rattle.std.proofs.Common.{◌≡◌, ℕ, ◌<◌, List, [], ◌∷◌, refl, sym, ap, subst, ◌∙◌, arith, Bool, true, false, cond}
-use Rattle.std.specs.Prelude.{ℤ, pos, negsuc, Option, Some, None}
+use Rattle.std.proofs.Common.{◌≡◌, ℕ, ◌<◌, refl, sym, ap, subst, ◌∙◌, arith, Bool, true, false, cond}
+use Rattle.std.specs.Prelude.{ℤ, pos, Option, Some, None}
 use Rattle.std.specs.List.{AllByRecursion}
 use Rattle.base_core.specs.declared.id.Pos.{Pos}
 use Rattle.base_core.specs.declared.id.Phase.TheVariants.{In1, Leave}
@@ -10,21 +10,20 @@ use Rattle.posix_table.specs.declared.kind.Effect.{Effect}
 use Rattle.posix_table.specs.declared.kind.Effect.TheVariants as effect
 use Rattle.c_arithmetic.specs.declared.types.IntType.{IntType}
 use Rattle.c_arithmetic.specs.Types.{int, long}
-use Rattle.run_model.specs.Kinds.{Kind, Void, Number, Pointer, FnPointer, InRange, Part, Whole, Member, part_of}
+use Rattle.run_model.specs.Kinds.{Kind, Number, Pointer, FnPointer, InRange, Part, Whole, Member, part_of}
 use Rattle.run_model.specs.Values.{Word, Int, Ptr, Fn, Value, Scalar, Signals, Items, At, AtErrno, NoValue, Values, update}
 use Rattle.run_model.specs.Values as values
-use Rattle.run_model.specs.Code.{Code, Place, Variable, Text, ErrnoPlace, MemberOf, Behind, Action, Take, Init, NoInit, FromValue, FromParts, FromList, LibraryCall, Library, OfVariable, OfText, static, function, at}
-use Rattle.run_model.specs.World.{How, Base, Called, Arrived, Handles, Frame, Thread, Shared, Process, World, keep}
+use Rattle.run_model.specs.Code.{Code, Place, Variable, Text, ErrnoPlace, MemberOf, Behind, Action, Init, NoInit, FromValue, FromParts, FromList, LibraryCall, Library, OfVariable, OfText, static, function, at}
+use Rattle.run_model.specs.World.{Frame, Thread, Shared, World}
 use Rattle.run_model.specs.Objects.{Content, Object, Objects}
 use Rattle.run_model.specs.Start.{IsStart}
-use Rattle.run_model.specs.Places.{Env, Local, env_of, local_of, whole, variable_place, member_place, member_of, unless, if_alive, behind, stands_for, of_place, designated}
-use Rattle.run_model.specs.Acts.{IsErrno, Changes, declared, Closes, Does}
-use Rattle.run_model.specs.Forks.{IsCopying, copies_process}
+use Rattle.run_model.specs.Places.{Env, Local, whole, variable_place, member_place, member_of, unless, if_alive, behind, stands_for, of_place}
+use Rattle.run_model.specs.Acts.{IsErrno, declared, Closes, Does}
+use Rattle.run_model.specs.Forks.{copies_process}
 use Rattle.run_model.specs.LibrarySteps.{Enters, ErrnoAfter, Results, LibraryDoes}
 use Rattle.run_model.specs.ThreadSteps.{Acts, StepKind, ThreadStep}
-use Rattle.run_model.specs.Runs.{Run, IsRun}
 use Rattle.run_model.specs.Owed.{ResultType, IsCode}
-use Rattle.run_model.specs.Laws.{InEachWorld, ForEachThread, HasErrno, HasIntegers, IntegersFit, IntegersLieInTheirTypes}
+use Rattle.run_model.specs.Laws.{ForEachThread, HasErrno, HasIntegers, IntegersFit, IntegersLieInTheirTypes}
 use Rattle.run_model.proofs.Kept.{IsKept, run_keeps}
 use Rattle.run_model.proofs.Ranges.{int_is_long}
 use Rattle.run_model.proofs.Fits.{Fits, AllFit, IsWide, kept_fit, update_fits, in_type, any_fits, converts_fit, read_fits, reads_fit, evaluates_fit, IsPlaceValue, stands_fit}
@@ -139,13 +138,17 @@ module _ (code : Code) (is : IsCode code) where
   does_fit p q e (Does.assigns {n = n} {b = b} {l = l} {v = v} at there value converts stores) h =
       record { errno = h.errno; vals = update_fits code l.vals n v h.vals (converts_fit (code.kind b) (code.kind n) (l.vals b) v (wide n) converts) }
   does_fit p q e (Does.assigns_errno v {n = n} {b = b} {l = l} {e = i} at value converts errno) h =
-      record { errno = becomes_errno v i (converts_fit (code.kind b) (Number int) (l.vals b) v int_is_wide converts) errno;
-               vals = update_fits code l.vals n _ h.vals (read_fits (code.kind n) (Int i) (wide n)) }
+      record {
+        errno = becomes_errno v i (converts_fit (code.kind b) (Number int) (l.vals b) v int_is_wide converts) errno;
+        vals = update_fits code l.vals n _ h.vals (read_fits (code.kind n) (Int i) (wide n));
+      }
   does_fit p q e (Does.changes v w {n = n} {op = op} {b = b} {old = old} {l = l} at there reads changes stores) h =
       record { errno = h.errno; vals = update_fits code l.vals n _ h.vals (chosen old (code.kind n) v w (reads_fit (wide n) reads) (converts_fit _ (code.kind n) changes.between w (wide n) changes.back)) }
   does_fit p q e (Does.changes_errno w {n = n} {old = old} {l = l} {e = i} at changes errno) h =
-      record { errno = becomes_errno w i (converts_fit _ (Number int) changes.between w int_is_wide changes.back) errno;
-               vals = update_fits code l.vals n _ h.vals (read_fits (code.kind n) (Int (cond old l.errno i)) (wide n)) }
+      record {
+        errno = becomes_errno w i (converts_fit _ (Number int) changes.between w int_is_wide changes.back) errno;
+        vals = update_fits code l.vals n _ h.vals (read_fits (code.kind n) (Int (cond old l.errno i)) (wide n));
+      }
   does_fit p q e (Does.declares {o = o} {init = init} {l = l} {x = x} {y = y} at found declares) h = declared_fits code init l o x y h
   does_fit p q e (Does.returns v {f = f} {e = n} {l = l} value converts) h =
       record { errno = h.errno; vals = update_fits code l.vals (function code f).node v h.vals (result_kind f v (converts_fit (code.kind n) (function code f).result (l.vals n) v (wide_result f) converts)) }
@@ -226,8 +229,14 @@ module _ (code : Code) (is : IsCode code) where
   step_fits (ThreadStep.returns v {top = top} {caller = caller} how leaves converts) h =
       let f = (frames_of h).1 in
       let n : ℕ = caller.pos.node.0 in
-      record { errno = h.errno; frames = (frame_fits _ (kept_fit code (at n Leave) _ (update_fits code caller.vals n v (λ m t i k w. f.0.values m t i k w)
-        (converts_fit (function code top.fn).result (code.kind n) _ v (wide n) converts))) f.0.saved, f.1) }
+      record {
+        errno = h.errno;
+        frames = (
+          frame_fits _ (kept_fit code (at n Leave) _ (update_fits code caller.vals n v (λ m t i k w. f.0.values m t i k w)
+              (converts_fit (function code top.fn).result (code.kind n) _ v (wide n) converts))) f.0.saved,
+          f.1,
+        );
+      }
   step_fits (ThreadStep.arrives o p unblocked handler takes defers free free' made) h = record { errno = h.errno; frames = (frame_fits _ no_values h.errno, h.frames) }
   step_fits (ThreadStep.resumes how leaves) h = record { errno = h.errno; frames = (frames_of h).1 }
   step_fits (ThreadStep.handles {top = top} fork runs next fits made) h =
@@ -245,8 +254,14 @@ module _ (code : Code) (is : IsCode code) where
     copies = λ {mask} {errno} {top} {rest} {e} i ws c p range h.
         let f = frames_of h in
         let n : ℕ = top.pos.node.0 in
-        record { errno = h.errno; frames = (frame_fits _ (kept_fit code (at n In1) _ (update_fits code top.vals n (Scalar (Int i)) (λ m t j k v. f.0.values m t j k v)
-          (fork_kind n c.call i c.is (is.ids n c.call c.is (subst (λ (k : Effect). copies_process k ≡ true) (sym c.effect) c.copies)) range))) f.0.saved, f.1) };
+        record {
+          errno = h.errno;
+          frames = (
+            frame_fits _ (kept_fit code (at n In1) _ (update_fits code top.vals n (Scalar (Int i)) (λ m t j k v. f.0.values m t j k v)
+                (fork_kind n c.call i c.is (is.ids n c.call c.is (subst (λ (k : Effect). copies_process k ≡ true) (sym c.effect) c.copies)) range))) f.0.saved,
+            f.1,
+          );
+        };
   }
 
   start_fits : (w : World) → IsStart code w → ForEachThread (IntegersFit code) w

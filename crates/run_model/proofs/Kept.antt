@@ -1,5 +1,5 @@
 -- What each step of a thread keeps holds in each world of a run, of each thread.
-use Rattle.std.proofs.Common.{◌≡◌, ℕ, List, [], ◌∷◌, ◌++◌, refl, sym, subst, Bool, true}
+use Rattle.std.proofs.Common.{◌≡◌, ℕ, List, [], ◌∷◌, ◌++◌, refl, sym, subst, true}
 use Rattle.std.specs.Prelude.{Option, Some, None, ℤ, pos, negsuc}
 use Rattle.std.specs.List.{AllByRecursion}
 use Rattle.base_core.specs.declared.id.Pos.{Pos}
@@ -16,7 +16,7 @@ use Rattle.run_model.specs.Frames.{begin}
 use Rattle.run_model.specs.Forks.{IsCopying, behind_copy, run_after}
 use Rattle.run_model.specs.ThreadSteps.{Goes, StepKind, thread, ThreadStep}
 use Rattle.run_model.specs.ProcessSteps.{Outcome, copy, process, arrived_at, Label, ProcessStep}
-use Rattle.run_model.specs.Runs.{list_of, Step, Run, GoesOn, IsRun}
+use Rattle.run_model.specs.Runs.{list_of, Step, Run, GoesOn}
 use Rattle.run_model.specs.Laws.{ForEachThread, InEachWorld}
 use Rattle.run_model.proofs.Lists.{all_append, all_front, all_back}
 
@@ -69,9 +69,10 @@ module _ (code : Code) (P : Thread → Type 0) (kept : IsKept code P) where
   process_keeps (ProcessStep.steps left right {t = t} {u = u} s) h = (stepped left right t u (kept.steps s) h, tt)
   process_keeps (ProcessStep.starts left right errno' {mask = mask} {errno = errno} {f = f} {to = to} {locals = locals} {top = top} {rest = rest} g a c e there is fits arg range made) h =
       (joined left right (thread mask errno (top ∷ rest)) (thread mask errno (arrived_at code top to ∷ rest)) (thread mask errno' (begin code f Base locals ∷ [])) (kept.comes to g) (kept.starts mask errno' f locals fits range) h, tt)
-  process_keeps (ProcessStep.forks left right {a = a} {confined = confined} {mask = mask} {errno = errno} {e = e} {v = v} {ws = ws} {child = child} {top = top} {rest = rest} is at none out) h =
-      (stepped left right (thread mask errno (top ∷ rest)) (thread mask errno (behind_copy code top v (run_after e ws) ∷ rest)) (copied_frame mask errno top rest (run_after e ws) v is at (of_outcome out)) h,
-       the_copy e (process a confined (left ++ thread mask errno (top ∷ rest) ∷ right)) mask errno top rest child is at (middle left right (thread mask errno (top ∷ rest)) h))
+  process_keeps (ProcessStep.forks left right {a = a} {confined = confined} {mask = mask} {errno = errno} {e = e} {v = v} {ws = ws} {child = child} {top = top} {rest = rest} is at none out) h = (
+    stepped left right (thread mask errno (top ∷ rest)) (thread mask errno (behind_copy code top v (run_after e ws) ∷ rest)) (copied_frame mask errno top rest (run_after e ws) v is at (of_outcome out)) h,
+    the_copy e (process a confined (left ++ thread mask errno (top ∷ rest) ∷ right)) mask errno top rest child is at (middle left right (thread mask errno (top ∷ rest)) h),
+  )
   process_keeps (ProcessStep.thread_ends before after {mask = mask} {errno = errno} {top = top} is at none) h = (lost before after (thread mask errno (top ∷ [])) h, tt)
   process_keeps (ProcessStep.ends has is may) h = (tt, tt)
 

@@ -1,14 +1,14 @@
 -- Prefixes, ends, and what the frame of an arrival keeps.
 use Rattle.std.proofs.Common.{◌≡◌, ℕ, List, [], ◌∷◌, ◌++◌, refl, sym, subst, arith, false}
-use Rattle.std.specs.Prelude.{Option, Some, None, ℤ, Contains}
+use Rattle.std.specs.Prelude.{Option, None, ℤ, Contains}
 use Rattle.run_model.specs.Signals.{Mask}
 use Rattle.run_model.specs.Code.{Code}
-use Rattle.run_model.specs.World.{How, Arrived, Frame, Thread, Shared, Process, World}
+use Rattle.run_model.specs.World.{Arrived, Frame, Thread, Shared, Process, World}
 use Rattle.run_model.specs.World.{Called, Handles}
 use Rattle.run_model.specs.Frames.{begin}
-use Rattle.run_model.specs.ThreadSteps.{StepKind, Begins, Leaves, Moves, ThreadStep}
-use Rattle.run_model.specs.ProcessSteps.{Label, process, ProcessStep}
-use Rattle.run_model.specs.Runs.{Step, Run, GoesOn, IsRun}
+use Rattle.run_model.specs.ThreadSteps.{StepKind, Begins, Leaves, ThreadStep}
+use Rattle.run_model.specs.ProcessSteps.{Label, ProcessStep}
+use Rattle.run_model.specs.Runs.{Step, Run, GoesOn}
 use Rattle.run_model.specs.Laws.{MaskComesBack, ArrivalsKeepMask, PrefixesAreRuns, EndIsEnd}
 
 prefix : (code : Code) (w : World) (run more : Run) → GoesOn code w (run ++ more) → GoesOn code w run

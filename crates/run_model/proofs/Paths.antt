@@ -1,29 +1,15 @@
 -- Runs that are written down step by step: what each step leads to follows from what it starts from.
-use Rattle.std.proofs.Common.{◌≡◌, ℕ, List, [], ◌∷◌, ◌++◌, refl, sym, ap, subst, ◌∙◌, length, Bool, true, false, arith, suc, nat_eq, eq-eqb}
-use Rattle.std.specs.Prelude.{◌≢◌, ℤ, pos, Option, Some, None, Contains}
+use Rattle.std.proofs.Common.{◌≡◌, ℕ, List, [], ◌∷◌, refl, sym, ap, subst, ◌∙◌, Bool, true, false, arith, suc, nat_eq, eq-eqb}
+use Rattle.std.specs.Prelude.{◌≢◌, ℤ, Contains}
 use Rattle.base_core.specs.declared.id.Pos.{Pos}
-use Rattle.base_core.specs.declared.rules.Rule.{Rule}
-use Rattle.base_core.specs.declared.rules.Rules.{Rules}
 use Rattle.posix_table.specs.declared.kind.Effect.{Effect}
 use Rattle.posix_table.specs.declared.kind.Effect.TheVariants as effect
-use Rattle.posix_table.specs.declared.kind.ResultKind.TheVariants as result
-use Rattle.c_arithmetic.specs.Types.{int, long}
-use Rattle.run_model.specs.Signals.{Mask}
-use Rattle.run_model.specs.Kinds.{InRange}
-use Rattle.run_model.specs.Values.{Word, Int, Ptr, Value, Values, Scalar, NoValue}
-use Rattle.run_model.specs.Code.{Code, Edge, Always, Action, LibraryCall, Library, Into, Out}
-use Rattle.run_model.specs.World.{Frame, Thread, Shared, Process, World}
-use Rattle.run_model.specs.Start.{IsStart}
-use Rattle.run_model.specs.Places.{Env, Local, env_of, local_of}
-use Rattle.run_model.specs.Arguments.{givens, AreThere}
-use Rattle.run_model.specs.LibraryWrites.{Writes}
-use Rattle.run_model.specs.Masks.{MaskAfter}
-use Rattle.run_model.specs.Forks.{copies_process, ForksAfter}
-use Rattle.run_model.specs.LibrarySteps.{Enters, ErrnoAfter, Results, CallReturns, LibraryDoes}
-use Rattle.run_model.specs.ThreadSteps.{Goes, Acts, goes_on, StepKind, Moves, thread, ThreadStep}
-use Rattle.run_model.specs.ProcessSteps.{Label, process, ProcessStep}
-use Rattle.run_model.specs.Runs.{Step, Run, GoesOn, IsRun}
-use Rattle.run_model.specs.Outlines.{Outline, program, all_broken, HasRun}
+use Rattle.run_model.specs.Values.{Word, Int, Ptr, Values, Scalar, NoValue}
+use Rattle.run_model.specs.Code.{Code, Edge, Always}
+use Rattle.run_model.specs.World.{World}
+use Rattle.run_model.specs.ThreadSteps.{Goes}
+use Rattle.run_model.specs.ProcessSteps.{Label}
+use Rattle.run_model.specs.Runs.{Step, Run, GoesOn}
 
 pub data Path (code : Code) : World → Type 0 where
   stop : {w : World} → Path code w

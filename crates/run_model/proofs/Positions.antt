@@ -1,21 +1,20 @@
 -- Each frame stands at a position of its function, and one that another one was called from in its call.
-use Rattle.std.proofs.Common.{◌≡◌, ℕ, List, [], ◌∷◌, ◌++◌, refl, sym, ap, subst, ◌∙◌, Bool, true, false}
-use Rattle.std.specs.Prelude.{Option, Some, None, ℤ, Contains, ◌&&◌}
+use Rattle.std.proofs.Common.{◌≡◌, ℕ, List, [], ◌∷◌, refl, sym, subst, Bool, true, false}
+use Rattle.std.specs.Prelude.{◌&&◌}
 use Rattle.std.specs.List.{AllByRecursion}
 use Rattle.std.proofs.lemmas.Bool.{and_parts}
 use Rattle.base_core.specs.declared.id.Pos.{Pos}
 use Rattle.base_core.specs.declared.id.Phase.{Phase}
-use Rattle.base_core.specs.declared.id.Phase.TheVariants.{In0, In1, Leave}
+use Rattle.base_core.specs.declared.id.Phase.TheVariants.{In0, In1}
 use Rattle.posix_table.specs.declared.kind.Effect.{Effect}
-use Rattle.run_model.specs.Signals.{Mask}
-use Rattle.run_model.specs.Values.{Values, Value}
-use Rattle.run_model.specs.Code.{Code, Callee, Named, Through, User, Edge, at, is_function}
-use Rattle.run_model.specs.Signatures.{takes_signal, starts_thread, handles_fork}
-use Rattle.run_model.specs.World.{How, Base, Called, Arrived, Handles, Frame, Thread, Shared, Process, World}
+use Rattle.run_model.specs.Values.{Values}
+use Rattle.run_model.specs.Code.{Code, Callee, Named, Through, User, at, is_function}
+use Rattle.run_model.specs.Signatures.{takes_signal}
+use Rattle.run_model.specs.World.{How, Called, Frame, Thread, Shared, Process, World}
 use Rattle.run_model.specs.Forks.{IsCopying}
 use Rattle.run_model.specs.Start.{IsStart}
-use Rattle.run_model.specs.ThreadSteps.{Goes, Calls, StepKind, thread, ThreadStep}
-use Rattle.run_model.specs.Runs.{Run, GoesOn, IsRun}
+use Rattle.run_model.specs.ThreadSteps.{Goes, Calls, StepKind, ThreadStep}
+use Rattle.run_model.specs.Runs.{Run}
 use Rattle.run_model.specs.Owed.{IsCode}
 use Rattle.run_model.specs.Laws.{InEachWorld, ForEachThread, Stands, FramesStand}
 use Rattle.run_model.proofs.Kept.{IsKept, run_keeps}

@@ -1,15 +1,15 @@
 -- What an operator gives on integers lies in the type of its result.
-use Rattle.std.proofs.Common.{◌≡◌, ℕ, ◌<◌, ◌-◌, refl, sym, subst, ◌∙◌, arith, Bool, true, false, cond}
-use Rattle.std.specs.Prelude.{ℤ, pos, negsuc, ◌+ℤ◌, ◌-ℤ◌, ◌*ℤ◌, neg_ℤ, Option, Some, None, IsTrue, not, ◌||◌, int_lt, int_div, int_rem, bit_and, bit_or, bit_xor, nat_lt}
+use Rattle.std.proofs.Common.{◌≡◌, ℕ, ◌<◌, ◌-◌, refl, sym, subst, arith, Bool, true, false, cond}
+use Rattle.std.specs.Prelude.{ℤ, pos, negsuc, Option, Some, None, not, ◌||◌, int_lt, int_div, bit_and, bit_or, bit_xor, nat_lt}
 use Rattle.std.proofs.lemmas.Bool.{lt-ltb, ltb-true}
 use Rattle.c_arithmetic.specs.declared.types.IntType.{IntType}
 use Rattle.c_arithmetic.specs.Types.{int, long, promoted, common}
-use Rattle.c_arithmetic.specs.Conversion.{half, modulus, holds, residue, represented, converted}
+use Rattle.c_arithmetic.specs.Conversion.{half, modulus, holds, residue, converted}
 use Rattle.c_arithmetic.specs.Operations.{places}
 use Rattle.c_arithmetic.proofs.Laws.{holds-converted, promoted-wide, common-wide}
 use Rattle.run_model.specs.Kinds.{InRange}
 use Rattle.run_model.specs.Values.{same_int}
-use Rattle.run_model.specs.Arithmetic.{Order, Computation, Times, Over, Remainder, ShiftLeft, ShiftRight, BitAnd, BitXor, BitOr, Operator, Equals, Orders, Adds, Subtracts, Computes, Sign, Plus, Minus, Complement, settled, shifted_left, shifted_right, divided, left_over, computed, truth_number, result_type, of_two, of_one}
+use Rattle.run_model.specs.Arithmetic.{Computation, Times, Over, Remainder, ShiftLeft, ShiftRight, BitAnd, BitXor, BitOr, Operator, Equals, Orders, Adds, Subtracts, Computes, Sign, Plus, Minus, Complement, settled, shifted_left, shifted_right, computed, truth_number, result_type, of_two, of_one}
 
 pub converted_in_range : (t : IntType) (z : ℤ) → 0 < t.width → InRange t (converted t z)
 converted_in_range t z wide = holds-converted t z wide

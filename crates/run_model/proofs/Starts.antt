@@ -1,20 +1,18 @@
 -- Every program has a world that its runs start from.
-use Rattle.std.proofs.Common.{◌≡◌, ℕ, ◌<◌, ◌≤◌, List, [], ◌∷◌, refl, sym, subst, arith, Bool, true, false, length, cond, nat_eq}
-use Rattle.std.specs.Prelude.{◌≢◌, ℤ, pos, Option, Some, None, slice_get, zero, suc, nat_lt, if◌then◌else◌}
+use Rattle.std.proofs.Common.{◌≡◌, ℕ, ◌≤◌, List, [], ◌∷◌, refl, arith, Bool, true, false, length, cond, nat_eq}
+use Rattle.std.specs.Prelude.{◌≢◌, pos, Option, Some, None, slice_get, zero, suc, nat_lt, if◌then◌else◌}
 use Rattle.std.proofs.lemmas.Bool.{lt-ltb, eqb-true}
 use Rattle.std.proofs.lemmas.Nat.{pow_pos}
 use Rattle.c_arithmetic.specs.declared.types.IntType.{IntType}
 use Rattle.std.specs.List.{AllByRecursion}
-use Rattle.c_arithmetic.specs.Types.{int, long}
 use Rattle.c_arithmetic.specs.Conversion.{half, modulus, holds}
 use Rattle.run_model.specs.Signals.{no_signal}
 use Rattle.run_model.specs.Kinds.{Kind, Void, Number, Pointer, FnPointer, SetKind, ActionKind, ArrayKind, PartsKind}
-use Rattle.run_model.specs.Values.{Int, Scalar, AnyOf, zero_word, update}
+use Rattle.run_model.specs.Values.{zero_word, update}
 use Rattle.run_model.specs.Objects.{Content, OfWord, OfSet, OfAction, OfItems, Object, Objects, Fresh}
 use Rattle.run_model.specs.Code.{Code, Static, function}
-use Rattle.run_model.specs.World.{World}
 use Rattle.run_model.specs.Frames.{Makes, no_locals, variable_object}
-use Rattle.run_model.specs.Start.{BeginsAs, AllBegin, static_object, static_objects, start_process, IsStart}
+use Rattle.run_model.specs.Start.{BeginsAs, AllBegin, static_object, static_objects, start_process}
 use Rattle.run_model.specs.Owed.{IsCode}
 use Rattle.run_model.specs.Laws.{HasStart}
 
@@ -97,17 +95,19 @@ made code is (v ∷ vs) n before h =
 pub has_start : HasStart
 has_start code is =
     let c = contents code code.statics is.statics in
-    let m = made code is (function code code.main).locals (length code.statics) (static_objects code c.xs) (static_free code c.xs) in
-    (start_process code no_signal (pos 0) (pos 1) m.locals m.objects ∷ [], record {
-      mask = no_signal;
-      errno = pos 0;
-      argc = pos 1;
-      contents = c.xs;
-      locals = m.locals;
-      objects = m.objects;
-      errno_range = refl;
-      argc_range = refl;
-      begins = c.begin;
-      fresh = m.made;
-      is = refl;
-    })
+    let m = made code is (function code code.main).locals (length code.statics) (static_objects code c.xs) (static_free code c.xs) in (
+      start_process code no_signal (pos 0) (pos 1) m.locals m.objects ∷ [],
+      record {
+        mask = no_signal;
+        errno = pos 0;
+        argc = pos 1;
+        contents = c.xs;
+        locals = m.locals;
+        objects = m.objects;
+        errno_range = refl;
+        argc_range = refl;
+        begins = c.begin;
+        fresh = m.made;
+        is = refl;
+      },
+    )

@@ -1,18 +1,14 @@
 -- Masks, dispositions, fork handlers, copies and ends.
-use Rattle.std.proofs.Common.{◌≡◌, ℕ, List, [], ◌∷◌, ◌++◌, refl, sym, subst, ap, ◌∙◌, arith, Bool, true, false, cond, nat_eq, length, eq-eqb, inl, inr}
+use Rattle.std.proofs.Common.{◌≡◌, ℕ, List, [], ◌∷◌, ◌++◌, refl, sym, subst, ap, Bool, true, false, nat_eq, length, eq-eqb, inl, inr}
 use Rattle.std.proofs.lemmas.Bool.{eqb-true}
-use Rattle.std.specs.Prelude.{◌⊎◌, ℤ, Option, Some, None, ◌||◌, not, Contains}
+use Rattle.std.specs.Prelude.{◌⊎◌, ℤ, Option, Some, None, ◌||◌, not}
 use Rattle.std.specs.List.{AllByRecursion}
 use Rattle.base_core.specs.Signal.{sigkill, sigstop}
-use Rattle.base_core.specs.declared.id.Pos.{Pos}
-use Rattle.base_core.specs.declared.id.Phase.TheVariants.{In0}
-use Rattle.posix_table.specs.declared.kind.ResultKind.TheVariants as result
 use Rattle.posix_table.specs.declared.kind.Effect.{Effect}
-use Rattle.run_model.specs.Signals.{Mask, can_be_caught, with_signal, union}
-use Rattle.run_model.specs.Values.{Word, update}
-use Rattle.run_model.specs.Code.{Code, LibraryCall, Library, at}
-use Rattle.run_model.specs.World.{Setter, Disposition, Called, Arrived, Handles, Frame, Thread, Shared, Process, World, Registered}
-use Rattle.run_model.specs.Places.{Local}
+use Rattle.run_model.specs.Signals.{Mask, can_be_caught}
+use Rattle.run_model.specs.Values.{Word}
+use Rattle.run_model.specs.Code.{Code, at}
+use Rattle.run_model.specs.World.{Setter, Disposition, Called, Arrived, Handles, Frame, Thread, Shared, Process, Registered}
 use Rattle.run_model.specs.Arguments.{argument, signal_of}
 use Rattle.run_model.specs.Frames.{begin}
 use Rattle.run_model.specs.Arrivals.{Defers, mask_in_handler}
@@ -21,7 +17,7 @@ use Rattle.run_model.specs.Forks.{prepares, parents, children}
 use Rattle.run_model.specs.ThreadSteps.{StepKind, Begins, thread, ThreadStep}
 use Rattle.run_model.specs.ProcessSteps.{Label, labelled, copy, MayEnd, ProcessStep}
 use Rattle.run_model.specs.Runs.{Step}
-use Rattle.run_model.specs.StepLaws.{IsToBlock, HandlersAreMasked, KillIsNotCaught, OrderOfForkHandlers, IsChild, ChildrenAreAlone, HasEnd, ExitEnds}
+use Rattle.run_model.specs.StepLaws.{IsToBlock, HandlersAreMasked, KillIsNotCaught, OrderOfForkHandlers, IsChild, ChildrenAreAlone, ExitEnds}
 
 -- ---- masks
 
@@ -58,7 +54,7 @@ thread_masked {code} (ThreadStep.arrives o p {a = a} {mask = m} {errno = i} {sig
     let q : begin code f (Arrived s m i) locals ≡ top = cc in let r : Arrived s m i ≡ Arrived sig saved errno = cc in let d : s ≡ sig = cc in
     subst (λ (n : ℕ). IsToBlock m (a.disp n) n k → mask_in_handler m (a.disp s) s blocks k ≡ true) d
     (λ x. elim x [
-      inl y ↦ in_mask m (a.disp s) s k blocks (inl y)
+      | inl y ↦ in_mask m (a.disp s) s k blocks (inl y)
       | inr y ↦ elim y [ inl z ↦ in_mask m (a.disp s) s k blocks (inr z) | inr z ↦ own_signal m (a.disp s) s k defers z.0 z.1 z.2 z.3 ]
     ]) h
 thread_masked (ThreadStep.resumes how' leaves) e top rest sig saved errno on how k h = absurd cc

@@ -1,6 +1,6 @@
 -- What a step along an edge does within a frame: values, reads, assignments, declarations, returns (C11 6.5.16, 6.5.2.4, 6.5.3.1, 6.7.9,
 -- 6.8.6.4, 6.9.1p12, 7.5).
-use Rattle.std.specs.Prelude.{◌≡◌, ◌≢◌, ℕ, ℤ, pos, List, [], ◌∷◌, ◌++◌, Option, Some, None, Bool, true, false, cond}
+use Rattle.std.specs.Prelude.{◌≡◌, ◌≢◌, ℕ, ℤ, pos, List, [], ◌∷◌, ◌++◌, Option, Some, None, Bool, true, cond}
 use Rattle.c_arithmetic.specs.Types.{int}
 use Rattle.run_model.specs.Signals.{Mask}
 use Rattle.run_model.specs.Kinds.{Kind, Number, InRange, Part, Whole}
@@ -8,7 +8,7 @@ use Rattle.run_model.specs.Values.{Word, Int, Item, Value, Scalar, Signals, At, 
 use Rattle.run_model.specs.Arithmetic.{Operator}
 use Rattle.run_model.specs.Conversions.{Converts}
 use Rattle.run_model.specs.Code.{Code, Operation, Operand, OfNode, OfOne, Init, NoInit, FromValue, FromParts, FromList, Action, Pass, Take, Designate, Read, Assign, Change, Declare, Return, Close, function}
-use Rattle.run_model.specs.Objects.{Content, OfWord, OfSet, OfAction, OfItems, Object, items_of, read_as, Reads, Stores, Fresh}
+use Rattle.run_model.specs.Objects.{Content, OfAction, OfItems, Object, items_of, read_as, Reads, Stores, Fresh}
 use Rattle.run_model.specs.Places.{Env, Local, takes, wrote, writes, IsThere, designated, stands_as}
 use Rattle.run_model.specs.Expressions.{Gives, kind_between, Evaluates}
 

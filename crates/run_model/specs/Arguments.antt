@@ -1,5 +1,5 @@
 -- The arguments of a call of a library function, and what their letters say of the objects behind them.
-use Rattle.std.specs.Prelude.{◌≡◌, ℕ, zero, suc, ℤ, pos, List, [], ◌∷◌, Option, Some, None, Bool, true, false, cond, slice_get, Contains}
+use Rattle.std.specs.Prelude.{◌≡◌, ℕ, zero, suc, ℤ, pos, List, [], ◌∷◌, Option, Some, None, Bool, true, false, cond, slice_get}
 use Rattle.posix_table.specs.declared.kind.Param.{Param}
 use Rattle.posix_table.specs.declared.kind.Param.TheVariants as letter
 use Rattle.posix_table.specs.declared.kind.ResultKind.{ResultKind}

@@ -1,10 +1,10 @@
 -- C's operators on integers, where C defines the result (C11 6.5.3.3, 6.5.5 to 6.5.12). Types and conversions are those of c_arithmetic; but
 -- an unsigned long from 2^63 on is a value here.
-use Rattle.std.specs.Prelude.{ℕ, ◌-◌, ◌^◌, ℤ, pos, negsuc, ◌+ℤ◌, ◌-ℤ◌, ◌*ℤ◌, neg_ℤ, Bool, true, false, cond, not, ◌||◌, if◌then◌else◌, int_lt, int_div, int_rem, bit_and, bit_or, bit_xor, Option, Some, None}
+use Rattle.std.specs.Prelude.{ℕ, ◌-◌, ◌^◌, ℤ, pos, ◌+ℤ◌, ◌-ℤ◌, ◌*ℤ◌, neg_ℤ, Bool, cond, not, ◌||◌, int_lt, int_div, int_rem, bit_and, bit_or, bit_xor, Option, Some, None}
 use Rattle.std.specs.Int.{int_shr}
 use Rattle.c_arithmetic.specs.declared.types.IntType.{IntType}
-use Rattle.c_arithmetic.specs.Types.{int, long, promoted, common}
-use Rattle.c_arithmetic.specs.Conversion.{modulus, holds, residue, represented, converted}
+use Rattle.c_arithmetic.specs.Types.{int, promoted, common}
+use Rattle.c_arithmetic.specs.Conversion.{modulus, holds, residue, converted}
 use Rattle.c_arithmetic.specs.Operations.{places}
 use Rattle.run_model.specs.Values.{same_int}
 

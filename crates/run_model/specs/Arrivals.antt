@@ -1,5 +1,5 @@
 -- The arrival of a signal at its handler (C11 7.14.1.1, POSIX.1-2017 XSH 2.4.3, sigaction).
-use Rattle.std.specs.Prelude.{◌≡◌, ℕ, pos, List, [], ◌∷◌, Some, None, Bool, true, false, cond, not}
+use Rattle.std.specs.Prelude.{◌≡◌, ℕ, pos, List, [], ◌∷◌, Some, Bool, true, false, cond, not}
 use Rattle.run_model.specs.Signals.{Mask, with_signal, union, can_be_reset}
 use Rattle.run_model.specs.Kinds.{PartsKind}
 use Rattle.run_model.specs.Values.{Int, Ptr, Value, Scalar, update}

@@ -1,5 +1,5 @@
 -- The seven rules, each over one step.
-use Rattle.std.specs.Prelude.{◌≡◌, ℤ, List, [], ◌∷◌, Bool, true, false, ◌||◌, ◌&&◌, not, nat_lt}
+use Rattle.std.specs.Prelude.{◌≡◌, List, ◌∷◌, Bool, true, false, ◌||◌, ◌&&◌, not, nat_lt}
 use Rattle.base_core.specs.declared.rules.Rule.{Rule}
 use Rattle.base_core.specs.declared.rules.Rule.TheVariants.{U, S, E, F, A, M, R}
 use Rattle.base_core.specs.declared.rules.Rules.{Rules}

@@ -1,20 +1,20 @@
 -- What the definitions say where it is easily missed, each beside the program where it shows.
-use Rattle.std.specs.Prelude.{◌≡◌, ◌≢◌, ℕ, ℤ, pos, negsuc, List, [], ◌∷◌, Option, Some, None, Bool, true, false}
+use Rattle.std.specs.Prelude.{◌≡◌, ◌≢◌, ℕ, ℤ, pos, negsuc, List, [], ◌∷◌, Bool, true, false}
 use Rattle.posix_table.specs.declared.kind.Param.TheVariants as letter
 use Rattle.posix_table.specs.declared.kind.Effect.{Effect}
-use Rattle.c_arithmetic.specs.Types.{int, long, unsigned_long}
+use Rattle.c_arithmetic.specs.Types.{int, long}
 use Rattle.run_model.specs.Signals.{sigill, sigtrap}
-use Rattle.run_model.specs.Kinds.{Kind, Void, Number, Pointer, ArrayKind, Whole, HandlerPart, FlagsPart, Part}
-use Rattle.run_model.specs.Values.{Word, Int, Ptr, Fn, Value, Scalar, At, NoValue, Item, AWord, zero_word}
+use Rattle.run_model.specs.Kinds.{Kind, Void, Number, Pointer, ArrayKind, Whole, Part}
+use Rattle.run_model.specs.Values.{Int, Ptr, Fn, Value, Scalar, At, NoValue, Item, AWord, zero_word}
 use Rattle.run_model.specs.Arithmetic.{Equals, Subtracts}
 use Rattle.run_model.specs.Conversions.{Converts}
 use Rattle.run_model.specs.Code.{Code, LibraryCall, Keep, AddressOf, ConstantAny, FromValue, function}
-use Rattle.run_model.specs.Objects.{Content, OfWord, OfItems, Reads}
-use Rattle.run_model.specs.World.{Setter, Disposition, Shared, Registered}
+use Rattle.run_model.specs.Objects.{Content, OfItems, Reads}
+use Rattle.run_model.specs.World.{Setter, Disposition, Shared}
 use Rattle.run_model.specs.Places.{Local, stands_as}
 use Rattle.run_model.specs.Expressions.{Gives, Evaluates}
 use Rattle.run_model.specs.Acts.{Declares, Closes}
-use Rattle.run_model.specs.Arguments.{Given, write_of, NoWrite}
+use Rattle.run_model.specs.Arguments.{write_of, NoWrite}
 use Rattle.run_model.specs.LibraryWrites.{Writes}
 use Rattle.run_model.specs.Arrivals.{Defers}
 use Rattle.run_model.specs.Forks.{prepares, parents, present}

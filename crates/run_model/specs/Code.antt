@@ -1,11 +1,11 @@
 -- A program as the layers below give it: positions, edges, and what is done on the way along an edge.
-use Rattle.std.specs.Prelude.{ℕ, suc, ℤ, List, [], ◌∷◌, Option, Some, None, Bool, true, false, ◌&&◌, nat_eq, option_map, slice_get}
+use Rattle.std.specs.Prelude.{ℕ, suc, ℤ, List, [], ◌∷◌, Option, Some, None, Bool, true, false, nat_eq, option_map, slice_get}
 use Rattle.base_core.specs.declared.id.Pos.{Pos}
 use Rattle.base_core.specs.declared.id.Phase.{Phase}
 use Rattle.base_core.specs.declared.id.Phase.TheVariants.{Enter, Leave}
 use Rattle.posix_table.specs.declared.kind.Param.{Param}
 use Rattle.posix_table.specs.declared.row.Row.{Row}
-use Rattle.run_model.specs.Kinds.{Kind, Void, Number, Pointer, Member}
+use Rattle.run_model.specs.Kinds.{Kind, Void, Member}
 use Rattle.run_model.specs.Arithmetic.{Operator, Sign}
 
 -- ---- positions and edges

@@ -3,7 +3,7 @@ use Rattle.std.specs.Prelude.{◌≡◌, Bool, true, false}
 use Rattle.c_arithmetic.specs.declared.types.IntType.{IntType}
 use Rattle.c_arithmetic.specs.Conversion.{converted}
 use Rattle.run_model.specs.Kinds.{Kind, Void, Number, is_address}
-use Rattle.run_model.specs.Values.{Word, Int, Value, Scalar, NoValue, AnyOf}
+use Rattle.run_model.specs.Values.{Int, Value, Scalar, NoValue, AnyOf}
 
 -- an integer that is brought into an integer type (6.3.1.3)
 abbrev pub wrapped : IntType → Value → Value

@@ -1,5 +1,5 @@
 -- Programs with a run that breaks a rule, and the same mended.
-use Rattle.std.specs.Prelude.{ℕ, ℤ, pos, List, [], ◌∷◌, ◌++◌, Option, Some, None, Bool, true, false, codes}
+use Rattle.std.specs.Prelude.{ℕ, ℤ, pos, List, [], ◌∷◌, ◌++◌, None, Bool, true, false, codes}
 use Rattle.base_core.specs.declared.id.Pos.{Pos}
 use Rattle.base_core.specs.declared.id.Phase.TheVariants.{Enter, In0, In1, Leave, Finish}
 use Rattle.base_core.specs.declared.rules.Rule.TheVariants.{U, S, E, F, A, M, R}
@@ -10,7 +10,7 @@ use Rattle.posix_table.specs.declared.kind.Effect.TheVariants as effect
 use Rattle.c_arithmetic.specs.Types.{int, long}
 use Rattle.run_model.specs.Kinds.{Void, Number, Pointer}
 use Rattle.run_model.specs.Code.{at, Always, Constant, FunctionName, Action, Pass, Take, Designate, Read, Assign, Return, Into, Out, Forked, Apart, Close, Variable, ErrnoPlace, OfVariable, ZeroInitial, Named, User, Library, LibraryCall, Function}
-use Rattle.run_model.specs.Outlines.{Way, Said, said, Outline, library, HasRun}
+use Rattle.run_model.specs.Outlines.{Way, said, Outline, library, HasRun}
 
 abbrev pub way : Pos → Action → Pos → Way
 way p a q = record { from = p; guard = Always; does = a; to = q }

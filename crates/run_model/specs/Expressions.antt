@@ -1,5 +1,5 @@
 -- The value of an expression from those of its operands (C11 6.5).
-use Rattle.std.specs.Prelude.{◌≡◌, ℕ, ℤ, pos, ◌≤ℤ◌, Option, Some, Bool, true, false, not, nat_eq}
+use Rattle.std.specs.Prelude.{◌≡◌, ℕ, ℤ, pos, ◌≤ℤ◌, Some, Bool, true, false, not, nat_eq}
 use Rattle.c_arithmetic.specs.declared.types.IntType.{IntType}
 use Rattle.c_arithmetic.specs.Types.{int, long}
 use Rattle.run_model.specs.Kinds.{Kind, Number, Pointer, Part, ArrayKind, InRange}

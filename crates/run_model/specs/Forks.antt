@@ -1,5 +1,5 @@
 -- Fork and its handlers (POSIX.1-2017 XSH fork, pthread_atfork).
-use Rattle.std.specs.Prelude.{◌≡◌, ◌≢◌, ℕ, pos, List, [], ◌∷◌, ◌++◌, Bool, true, false, cond}
+use Rattle.std.specs.Prelude.{◌≡◌, ◌≢◌, pos, List, [], ◌∷◌, ◌++◌, Bool, true, false, cond}
 use Rattle.base_core.specs.declared.id.Pos.{Pos}
 use Rattle.base_core.specs.declared.id.Phase.TheVariants.{In0, In1}
 use Rattle.posix_table.specs.declared.kind.Effect.{Effect}

@@ -5,7 +5,7 @@ use Rattle.posix_table.specs.declared.kind.ResultKind.TheVariants as result
 use Rattle.c_arithmetic.specs.Types.{int, long}
 use Rattle.run_model.specs.Signals.{Mask, no_signal, can_be_caught}
 use Rattle.run_model.specs.Kinds.{InRange}
-use Rattle.run_model.specs.Values.{Word, Int, Ptr, Fn, AWord, Value, Scalar, update}
+use Rattle.run_model.specs.Values.{Word, Int, Ptr, Fn, AWord, Scalar, update}
 use Rattle.run_model.specs.Objects.{OfAction, Object}
 use Rattle.run_model.specs.Code.{LibraryCall}
 use Rattle.run_model.specs.World.{Setter, Disposition, default, Shared}

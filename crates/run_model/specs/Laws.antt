@@ -5,7 +5,7 @@ use Rattle.c_arithmetic.specs.declared.types.IntType.{IntType}
 use Rattle.c_arithmetic.specs.Types.{int}
 use Rattle.run_model.specs.Signals.{Mask}
 use Rattle.run_model.specs.Kinds.{Number, InRange}
-use Rattle.run_model.specs.Values.{Word, Int, Scalar}
+use Rattle.run_model.specs.Values.{Int, Scalar}
 use Rattle.run_model.specs.Code.{Code}
 use Rattle.run_model.specs.World.{How, Arrived, Frame, Thread, Shared, Process, World}
 use Rattle.run_model.specs.Start.{IsStart}

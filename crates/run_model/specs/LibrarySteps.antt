@@ -1,5 +1,5 @@
 -- The steps of a call of a library function: into In0, where its arguments are known, and from there to Leave.
-use Rattle.std.specs.Prelude.{◌≡◌, ◌≢◌, ℕ, ℤ, pos, negsuc, List, [], ◌∷◌, Option, Some, None, Bool, true, false, cond, ◌||◌, ◌&&◌, nat_eq}
+use Rattle.std.specs.Prelude.{◌≡◌, ◌≢◌, ℕ, ℤ, pos, negsuc, List, [], Option, Some, None, false, cond, ◌||◌, ◌&&◌, nat_eq}
 use Rattle.posix_table.specs.declared.kind.ResultKind.{ResultKind}
 use Rattle.posix_table.specs.declared.kind.ResultKind.TheVariants as result
 use Rattle.posix_table.specs.declared.kind.Effect.{Effect}
@@ -7,7 +7,7 @@ use Rattle.posix_table.specs.declared.kind.Effect.TheVariants as effect
 use Rattle.c_arithmetic.specs.Types.{int, long}
 use Rattle.run_model.specs.Signals.{Mask}
 use Rattle.run_model.specs.Kinds.{PartsKind, InRange}
-use Rattle.run_model.specs.Values.{Word, Int, Ptr, Item, Value, Scalar, Signals, NoValue, update}
+use Rattle.run_model.specs.Values.{Int, Ptr, Item, Value, Scalar, Signals, NoValue, update}
 use Rattle.run_model.specs.Objects.{OfItems, Object}
 use Rattle.run_model.specs.Code.{Code, LibraryCall, Library, Allocated, OfLibrary, Action, Into, Out, Forked, static}
 use Rattle.run_model.specs.World.{Registered, Shared}

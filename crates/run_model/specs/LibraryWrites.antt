@@ -5,7 +5,7 @@ use Rattle.posix_table.specs.declared.kind.Effect.TheVariants as effect
 use Rattle.c_arithmetic.specs.Types.{int, long}
 use Rattle.run_model.specs.Signals.{Mask, no_signal, is_signal, with_signal, without_signal}
 use Rattle.run_model.specs.Kinds.{Kind, Number, InRange}
-use Rattle.run_model.specs.Values.{Word, Int, Ptr, Fn, Item, AWord, ASet, Value, Scalar, AnyOf, is_zero, zero_word}
+use Rattle.run_model.specs.Values.{Word, Int, Ptr, Item, AWord, Value, Scalar, AnyOf, is_zero, zero_word}
 use Rattle.run_model.specs.Objects.{Content, OfWord, OfSet, OfAction, OfItems, Object}
 use Rattle.run_model.specs.Code.{LibraryCall}
 use Rattle.run_model.specs.World.{Setter, Disposition, default, Shared}

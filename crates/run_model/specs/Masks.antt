@@ -1,9 +1,9 @@
 -- How calls change the mask of their thread: pthread_sigmask and sigprocmask, sigsuspend and pselect (POSIX.1-2017 XSH).
-use Rattle.std.specs.Prelude.{◌≡◌, ◌≢◌, ℕ, ℤ, pos, Option, Some, None, cond, nat_eq}
+use Rattle.std.specs.Prelude.{◌≡◌, ◌≢◌, ℕ, pos, Option, Some, None, cond, nat_eq}
 use Rattle.posix_table.specs.declared.kind.Effect.{Effect}
 use Rattle.posix_table.specs.declared.kind.Effect.TheVariants as effect
 use Rattle.run_model.specs.Signals.{Mask, union, minus}
-use Rattle.run_model.specs.Values.{Word, Int, Value, Scalar, Signals}
+use Rattle.run_model.specs.Values.{Int, Value, Scalar, Signals}
 use Rattle.run_model.specs.Code.{LibraryCall}
 use Rattle.run_model.specs.Places.{Local}
 use Rattle.run_model.specs.Arguments.{argument, SetBehind}

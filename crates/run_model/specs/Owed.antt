@@ -1,5 +1,5 @@
 -- What the layers below owe of a program: where its edges lead, and that the types of its nodes are C's.
-use Rattle.std.specs.Prelude.{◌≡◌, ◌≢◌, ℕ, ◌<◌, ℤ, List, [], ◌∷◌, Option, Some, true, Contains}
+use Rattle.std.specs.Prelude.{◌≡◌, ◌≢◌, ℕ, ◌<◌, ℤ, List, true, Contains}
 use Rattle.std.specs.List.{AllByRecursion}
 use Rattle.base_core.specs.declared.id.Pos.{Pos}
 use Rattle.base_core.specs.declared.id.Phase.TheVariants.{In0, In1, Leave}
@@ -8,7 +8,7 @@ use Rattle.posix_table.specs.declared.kind.ResultKind.TheVariants as result
 use Rattle.c_arithmetic.specs.declared.types.IntType.{IntType}
 use Rattle.c_arithmetic.specs.Types.{int, unsigned_long, long, promoted}
 use Rattle.run_model.specs.Kinds.{Kind, Void, Number, Pointer, FnPointer, InRange}
-use Rattle.run_model.specs.Code.{Code, Edge, Operation, Constant, SizeOf, Keep, Not, IsNonzero, One, Two, Action, Take, Callee, Named, User, LibraryCall, Library, Function, Static, OfArguments, function, is_function, enter_of, at, static}
+use Rattle.run_model.specs.Code.{Code, Edge, Operation, Constant, SizeOf, Keep, Not, IsNonzero, One, Two, Take, Callee, Named, User, LibraryCall, Library, Static, function, is_function, enter_of, at}
 use Rattle.run_model.specs.Expressions.{kind_between}
 use Rattle.run_model.specs.Forks.{copies_process}
 use Rattle.run_model.specs.Start.{BeginsAs}

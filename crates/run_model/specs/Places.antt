@@ -1,8 +1,8 @@
 -- What a step of the frame that runs may look at and change, and the object that a place designates (C11 6.3.2.1p1, 6.5.2.1, 6.5.2.3, 6.5.3.2).
 use Rattle.std.specs.Prelude.{◌≡◌, ℕ, ℤ, List, ◌∷◌, Option, Some, None, Bool, true, false, ◌||◌, ◌&&◌, nat_eq}
 use Rattle.run_model.specs.Signals.{Mask}
-use Rattle.run_model.specs.Kinds.{Kind, ArrayKind, Part, Whole, part_of, is_array, Member}
-use Rattle.run_model.specs.Values.{Word, Int, Ptr, Fn, Value, Scalar, At, AtErrno, Values, update}
+use Rattle.run_model.specs.Kinds.{Kind, Part, Whole, part_of, is_array, Member}
+use Rattle.run_model.specs.Values.{Word, Ptr, Value, Scalar, At, AtErrno, Values, update}
 use Rattle.run_model.specs.Objects.{Content, Object, Objects}
 use Rattle.run_model.specs.Code.{Code, OfVariable, OfText, Place, Variable, Text, ErrnoPlace, MemberOf, Behind, static}
 use Rattle.run_model.specs.World.{Disposition, Frame, Shared, in_handler}

@@ -70,7 +70,7 @@ pub data ProcessStep (code : Code) : Process → Label → Option Process → Li
       → ProcessStep code (process a confined (left ++ thread mask errno (top ∷ rest) ∷ right))
       (labelled Moves a confined (left ++ thread mask errno (top ∷ rest) ∷ right) (thread mask errno (top ∷ rest)) (thread mask errno (arrived_at code top to ∷ rest)))
       (Some (process (with_objects a (give_all locals (function code f).parameters (Scalar w ∷ []) objects)) confined
-        (left ++ thread mask errno (arrived_at code top to ∷ rest) ∷ thread mask errno' (begin code f Base locals ∷ []) ∷ right))) []
+      (left ++ thread mask errno (arrived_at code top to ∷ rest) ∷ thread mask errno' (begin code f Base locals ∷ []) ∷ right))) []
   -- from In0 to In1 of fork, when the prepare handlers have run
   forks : (left right : List Thread) {a : Shared} {confined : Bool} {mask : Mask} {errno : ℤ} {e : Effect} {v : Value} {ws : List Word} {child : Option (List Word)} {top : Frame} {rest : List Frame}
       → IsCopying code top.pos e → top.pos.phase ≡ In0 → top.to_run ≡ [] → Outcome a v ws child

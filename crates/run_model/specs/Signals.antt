@@ -1,5 +1,5 @@
 -- Signals and sets of signals (POSIX.1-2017 XBD signal.h, XSH 2.4.1).
-use Rattle.std.specs.Prelude.{ℕ, Bool, true, false, ◌||◌, ◌&&◌, not, nat_eq, nat_lt}
+use Rattle.std.specs.Prelude.{ℕ, Bool, false, ◌||◌, ◌&&◌, not, nat_eq, nat_lt}
 use Rattle.base_core.specs.Signal.{sigkill, sigstop}
 
 -- a set of signals, as the mask of blocked signals that each thread has

@@ -1,12 +1,12 @@
 -- The worlds that runs start from (C11 5.1.2, 6.7.9p4, p10; POSIX.1-2017 XSH 2.4.3).
-use Rattle.std.specs.Prelude.{◌≡◌, ℕ, ℤ, pos, List, [], ◌∷◌, Option, Some, None, Bool, true, false, slice_get}
+use Rattle.std.specs.Prelude.{◌≡◌, ℕ, ℤ, pos, List, [], ◌∷◌, Option, Some, None, true, false, slice_get}
 use Rattle.c_arithmetic.specs.Types.{int}
 use Rattle.run_model.specs.Signals.{Mask}
 use Rattle.run_model.specs.Kinds.{Kind, SetKind, ActionKind, ArrayKind, PartsKind, InRange, is_word}
 use Rattle.run_model.specs.Values.{Word, Int, Ptr, Fn, Item, AWord, Value, Scalar, AnyOf, zero_word}
 use Rattle.run_model.specs.Objects.{Content, OfWord, OfSet, OfAction, OfItems, Object, Objects}
 use Rattle.run_model.specs.Code.{Code, Origin, OfArguments, StaticValue, ConstantInt, ConstantAny, ConstantAddress, ConstantFunction, Initial, ZeroInitial, InitialWord, InitialAction, InitialItems, Static, static, function}
-use Rattle.run_model.specs.World.{Base, default, Thread, Shared, Process, World}
+use Rattle.run_model.specs.World.{Base, default, Process, World}
 use Rattle.run_model.specs.Frames.{FrameObjects, give_all, begin}
 
 -- the word of a constant initialiser

@@ -1,11 +1,10 @@
 -- What holds of single steps: of masks, dispositions, fork handlers, copies and ends.
-use Rattle.std.specs.Prelude.{◌≡◌, ◌⊎◌, ℕ, ℤ, pos, List, [], ◌∷◌, ◌++◌, length, Option, Some, None, Bool, true, false, ◌||◌, nat_lt, Contains}
+use Rattle.std.specs.Prelude.{◌≡◌, ◌⊎◌, ℕ, ℤ, List, [], ◌∷◌, ◌++◌, length, Option, None, true, false, ◌||◌, nat_lt, Contains}
 use Rattle.std.specs.List.{AllByRecursion}
 use Rattle.base_core.specs.Signal.{sigkill, sigstop}
 use Rattle.base_core.specs.declared.id.Phase.TheVariants.{In0}
 use Rattle.posix_table.specs.declared.kind.ResultKind.TheVariants as result
 use Rattle.run_model.specs.Signals.{Mask}
-use Rattle.run_model.specs.Values.{Word}
 use Rattle.run_model.specs.Code.{Code, LibraryCall, Library, at}
 use Rattle.run_model.specs.World.{Arrived, Setter, Disposition, Frame, Thread, Shared, Process, World, Registered}
 use Rattle.run_model.specs.Places.{Local}

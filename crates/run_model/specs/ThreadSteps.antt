@@ -10,7 +10,7 @@ use Rattle.run_model.specs.Conversions.{Converts}
 use Rattle.run_model.specs.Objects.{Objects}
 use Rattle.run_model.specs.Code.{Code, at, Guard, Always, Nonzero, Zero, Equal, NoneOf, Edge, Action, Callee, Named, Through, User, Parameter, function, is_function, leave_of}
 use Rattle.run_model.specs.Signatures.{takes_signal, handles_fork}
-use Rattle.run_model.specs.World.{Role, How, Called, Arrived, Handles, Frame, Thread, Shared, in_handler, keep}
+use Rattle.run_model.specs.World.{Role, Called, Arrived, Handles, Frame, Thread, Shared, in_handler, keep}
 use Rattle.run_model.specs.Frames.{FrameObjects, give_all, begin, left}
 use Rattle.run_model.specs.Places.{Env, Local, env_of, local_of}
 use Rattle.run_model.specs.Acts.{Does}

@@ -1,5 +1,5 @@
 -- Values.
-use Rattle.std.specs.Prelude.{◌≡◌, ℕ, ℤ, pos, negsuc, List, [], Bool, true, false, cond, not, nat_eq}
+use Rattle.std.specs.Prelude.{◌≡◌, ℕ, ℤ, pos, negsuc, List, [], Bool, true, false, cond, nat_eq}
 use Rattle.c_arithmetic.specs.Types.{int, long}
 use Rattle.run_model.specs.Signals.{Mask}
 use Rattle.run_model.specs.Kinds.{Kind, Void, Number, Pointer, FnPointer, SetKind, ActionKind, ArrayKind, PartsKind, InRange, Part}

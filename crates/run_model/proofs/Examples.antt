@@ -1,13 +1,13 @@
 -- The runs of the examples, step by step.
 use Rattle.std.proofs.Common.{◌≡◌, ℕ, List, [], ◌∷◌, refl, sym, subst, Bool, true, false}
-use Rattle.std.specs.Prelude.{pos}
+use Rattle.std.specs.Prelude.{pos, codes}
 use Rattle.base_core.specs.declared.id.Phase.TheVariants.{In0, Leave, Finish}
 use Rattle.base_core.specs.declared.rules.Rule.TheVariants.{U, S, E, F, A, M, R}
-use Rattle.base_core.specs.declared.rules.Rules.TheVariants.{Usual}
+use Rattle.base_core.specs.declared.rules.Rules.TheVariants.{Usual, Later}
 use Rattle.run_model.specs.Signals.{no_signal}
 use Rattle.run_model.specs.Values.{Int, Scalar, NoValue, zero_word}
 use Rattle.run_model.specs.Code.{Static, at, function, Constant, Take, Read}
-use Rattle.run_model.specs.World.{World, Prepare}
+use Rattle.run_model.specs.World.{World, Prepare, Child}
 use Rattle.run_model.specs.Objects.{OfWord, Stores}
 use Rattle.run_model.specs.Frames.{Makes, no_locals}
 use Rattle.run_model.specs.Start.{Begins, AllBegin, static_objects, start_process, IsStart}
@@ -23,7 +23,7 @@ use Rattle.run_model.specs.ThreadSteps.{Passes, Acts, ThreadStep}
 use Rattle.run_model.specs.ProcessSteps.{Outcome, ProcessStep}
 use Rattle.run_model.specs.Runs.{Step}
 use Rattle.run_model.specs.Outlines.{Outline, program, HasRun}
-use Rattle.run_model.specs.Examples.{sigint, sigsegv, rand, getpid, close_call, wtermsig, sigprocmask, pthread_sigmask, one_handler, two_handlers, writes_static, with_argument, helper_assigns, forks_and_calls, spawns_and_calls, fork_handler, masks, RunsThatBreakARule, RunsThatBreakNone}
+use Rattle.run_model.specs.Examples.{sigint, sigsegv, rand, getpid, close_call, wtermsig, sigprocmask, pthread_sigmask, one_handler, two_handlers, writes_static, with_argument, helper_assigns, forks_and_calls, spawns_and_calls, fork_handler, child_handler, mutex_call, interrupted_fork_handler, fork_later, split, masks, RunsThatBreakARule, RunsThatBreakNone}
 use Rattle.run_model.proofs.Paths.{Path, run_of, goes_of, along, false_true, int_pointer, not_zero, is_value, apart}
 
 -- main begins with nothing blocked and with errno 0
@@ -431,8 +431,130 @@ pub pthread_sigmask_among_threads : HasRun (masks pthread_sigmask) Usual 10 []
 unfolding path_pthread_sigmask_among_threads
 pthread_sigmask_among_threads = record { first = start (masks pthread_sigmask); run = run_of path_pthread_sigmask_among_threads; is = record { start = starts (masks pthread_sigmask) refl refl; goes = goes_of path_pthread_sigmask_among_threads }; long = refl; breaks = refl }
 
+path_lock_in_child_handler : Path (program (child_handler (mutex_call (codes "pthread_mutex_lock")))) (start (child_handler (mutex_call (codes "pthread_mutex_lock"))))
+path_lock_in_child_handler =
+    Path.then (Step.step [] [] (ProcessStep.steps [] [] (ThreadStep.moves (along (at 40 Leave) refl) (Acts.program (Does.takes_value Evaluates.constant))))) (
+    Path.then (Step.step [] [] (ProcessStep.steps [] [] (ThreadStep.moves (along (at 41 Leave) refl) (Acts.program (Does.takes_value Evaluates.constant))))) (
+    Path.then (Step.step [] [] (ProcessStep.steps [] [] (ThreadStep.moves (along (at 42 Leave) refl) (Acts.program (Does.takes_value Evaluates.function))))) (
+    Path.then (Step.step [] [] (ProcessStep.steps [] [] (ThreadStep.moves (along (at 43 Leave) refl) (Acts.program (Does.takes_value Evaluates.constant))))) (
+    Path.then (Step.step [] [] (ProcessStep.starts [] [] (pos 0) (along (at 44 In0) refl) refl refl refl ((λ e o f. absurd (int_pointer _ o f)), ((λ e o f. absurd (false_true e)), ((λ e o f. absurd (false_true e)), ((λ e o f. absurd (false_true e)), tt)))) refl refl refl refl Makes.none)) (
+    Path.then (Step.step [] [] (ProcessStep.steps [] (_ ∷ []) (ThreadStep.moves (along (at 44 Leave) refl) (Acts.library (LibraryDoes.leaves refl refl ((λ e o f. absurd (int_pointer _ o f)), ((λ e o f. absurd (false_true e)), ((λ e o f. absurd (false_true e)), ((λ e o f. absurd (false_true e)), tt)))) (record { written = _; shared = _; mask = _; errno = pos 0; forks = _; v = _; writes = (Writes.skips refl (Writes.skips refl (Writes.skips refl (Writes.skips refl Writes.done)))); results = Results.integer {i = pos 0} refl; masks = MaskAfter.other (apart _ _ refl) (apart _ _ refl); errors = refl; registers = ForksAfter.keeps; is = refl })))))) (
+    Path.then (Step.step [] [] (ProcessStep.steps [] (_ ∷ []) (ThreadStep.moves (along (at 50 Leave) refl) (Acts.program (Does.takes_value Evaluates.constant))))) (
+    Path.then (Step.step [] [] (ProcessStep.steps [] (_ ∷ []) (ThreadStep.moves (along (at 51 Leave) refl) (Acts.program (Does.takes_value Evaluates.constant))))) (
+    Path.then (Step.step [] [] (ProcessStep.steps [] (_ ∷ []) (ThreadStep.moves (along (at 52 Leave) refl) (Acts.program (Does.takes_value Evaluates.function))))) (
+    Path.then (Step.step [] [] (ProcessStep.steps [] (_ ∷ []) (ThreadStep.moves (along (at 53 In0) refl) (Acts.library (LibraryDoes.enters refl ((λ e o f. absurd (false_true e)), ((λ e o f. absurd (false_true e)), ((λ e o f. absurd (false_true e)), tt))) (Enters.other (apart _ _ refl) (apart _ _ refl) (apart _ _ refl))))))) (
+    Path.then (Step.step [] [] (ProcessStep.steps [] (_ ∷ []) (ThreadStep.moves (along (at 53 Leave) refl) (Acts.library (LibraryDoes.leaves refl refl ((λ e o f. absurd (false_true e)), ((λ e o f. absurd (false_true e)), ((λ e o f. absurd (false_true e)), tt))) (record { written = _; shared = _; mask = _; errno = pos 0; forks = _; v = _; writes = (Writes.skips refl (Writes.skips refl (Writes.skips refl Writes.done))); results = Results.integer {i = pos 0} refl; masks = MaskAfter.other (apart _ _ refl) (apart _ _ refl); errors = refl; registers = ForksAfter.registers refl refl refl; is = refl })))))) (
+    Path.then (Step.step [] [] (ProcessStep.steps [] (_ ∷ []) (ThreadStep.moves (along (at 20 In0) refl) (Acts.library (LibraryDoes.enters refl tt Enters.forks))))) (
+    Path.then (Step.step [] [] (ProcessStep.forks [] (_ ∷ []) (record { call = _; is = refl; effect = refl; copies = refl }) refl refl (Outcome.copied {id = pos 7} (record { le = tt }) refl))) (
+    Path.then (Step.step (_ ∷ []) [] (ProcessStep.steps [] [] (ThreadStep.handles {r = Child} (record { call = _; is = refl; effect = refl; copies = refl }) (refl, refl) refl refl Makes.none))) (
+    Path.then (Step.step (_ ∷ []) [] (ProcessStep.steps [] [] (ThreadStep.moves (along (at 12 Leave) refl) (Acts.program (Does.takes_value Evaluates.constant))))) (
+    Path.then (Step.step (_ ∷ []) [] (ProcessStep.steps [] [] (ThreadStep.moves (along (at 61 In0) refl) (Acts.library (LibraryDoes.enters refl ((λ e o f. absurd (false_true e)), tt) (Enters.other (apart _ _ refl) (apart _ _ refl) (apart _ _ refl))))))) (
+    Path.stop))))))))))))))))
+
+pub lock_in_child_handler : HasRun (child_handler (mutex_call (codes "pthread_mutex_lock"))) Usual 16 (F ∷ [])
+unfolding path_lock_in_child_handler
+lock_in_child_handler = record { first = start (child_handler (mutex_call (codes "pthread_mutex_lock"))); run = run_of path_lock_in_child_handler; is = record { start = starts (child_handler (mutex_call (codes "pthread_mutex_lock"))) refl refl; goes = goes_of path_lock_in_child_handler }; long = refl; breaks = refl }
+
+path_unlock_in_child_handler : Path (program (child_handler (mutex_call (codes "pthread_mutex_unlock")))) (start (child_handler (mutex_call (codes "pthread_mutex_unlock"))))
+path_unlock_in_child_handler =
+    Path.then (Step.step [] [] (ProcessStep.steps [] [] (ThreadStep.moves (along (at 40 Leave) refl) (Acts.program (Does.takes_value Evaluates.constant))))) (
+    Path.then (Step.step [] [] (ProcessStep.steps [] [] (ThreadStep.moves (along (at 41 Leave) refl) (Acts.program (Does.takes_value Evaluates.constant))))) (
+    Path.then (Step.step [] [] (ProcessStep.steps [] [] (ThreadStep.moves (along (at 42 Leave) refl) (Acts.program (Does.takes_value Evaluates.function))))) (
+    Path.then (Step.step [] [] (ProcessStep.steps [] [] (ThreadStep.moves (along (at 43 Leave) refl) (Acts.program (Does.takes_value Evaluates.constant))))) (
+    Path.then (Step.step [] [] (ProcessStep.starts [] [] (pos 0) (along (at 44 In0) refl) refl refl refl ((λ e o f. absurd (int_pointer _ o f)), ((λ e o f. absurd (false_true e)), ((λ e o f. absurd (false_true e)), ((λ e o f. absurd (false_true e)), tt)))) refl refl refl refl Makes.none)) (
+    Path.then (Step.step [] [] (ProcessStep.steps [] (_ ∷ []) (ThreadStep.moves (along (at 44 Leave) refl) (Acts.library (LibraryDoes.leaves refl refl ((λ e o f. absurd (int_pointer _ o f)), ((λ e o f. absurd (false_true e)), ((λ e o f. absurd (false_true e)), ((λ e o f. absurd (false_true e)), tt)))) (record { written = _; shared = _; mask = _; errno = pos 0; forks = _; v = _; writes = (Writes.skips refl (Writes.skips refl (Writes.skips refl (Writes.skips refl Writes.done)))); results = Results.integer {i = pos 0} refl; masks = MaskAfter.other (apart _ _ refl) (apart _ _ refl); errors = refl; registers = ForksAfter.keeps; is = refl })))))) (
+    Path.then (Step.step [] [] (ProcessStep.steps [] (_ ∷ []) (ThreadStep.moves (along (at 50 Leave) refl) (Acts.program (Does.takes_value Evaluates.constant))))) (
+    Path.then (Step.step [] [] (ProcessStep.steps [] (_ ∷ []) (ThreadStep.moves (along (at 51 Leave) refl) (Acts.program (Does.takes_value Evaluates.constant))))) (
+    Path.then (Step.step [] [] (ProcessStep.steps [] (_ ∷ []) (ThreadStep.moves (along (at 52 Leave) refl) (Acts.program (Does.takes_value Evaluates.function))))) (
+    Path.then (Step.step [] [] (ProcessStep.steps [] (_ ∷ []) (ThreadStep.moves (along (at 53 In0) refl) (Acts.library (LibraryDoes.enters refl ((λ e o f. absurd (false_true e)), ((λ e o f. absurd (false_true e)), ((λ e o f. absurd (false_true e)), tt))) (Enters.other (apart _ _ refl) (apart _ _ refl) (apart _ _ refl))))))) (
+    Path.then (Step.step [] [] (ProcessStep.steps [] (_ ∷ []) (ThreadStep.moves (along (at 53 Leave) refl) (Acts.library (LibraryDoes.leaves refl refl ((λ e o f. absurd (false_true e)), ((λ e o f. absurd (false_true e)), ((λ e o f. absurd (false_true e)), tt))) (record { written = _; shared = _; mask = _; errno = pos 0; forks = _; v = _; writes = (Writes.skips refl (Writes.skips refl (Writes.skips refl Writes.done))); results = Results.integer {i = pos 0} refl; masks = MaskAfter.other (apart _ _ refl) (apart _ _ refl); errors = refl; registers = ForksAfter.registers refl refl refl; is = refl })))))) (
+    Path.then (Step.step [] [] (ProcessStep.steps [] (_ ∷ []) (ThreadStep.moves (along (at 20 In0) refl) (Acts.library (LibraryDoes.enters refl tt Enters.forks))))) (
+    Path.then (Step.step [] [] (ProcessStep.forks [] (_ ∷ []) (record { call = _; is = refl; effect = refl; copies = refl }) refl refl (Outcome.copied {id = pos 7} (record { le = tt }) refl))) (
+    Path.then (Step.step (_ ∷ []) [] (ProcessStep.steps [] [] (ThreadStep.handles {r = Child} (record { call = _; is = refl; effect = refl; copies = refl }) (refl, refl) refl refl Makes.none))) (
+    Path.then (Step.step (_ ∷ []) [] (ProcessStep.steps [] [] (ThreadStep.moves (along (at 12 Leave) refl) (Acts.program (Does.takes_value Evaluates.constant))))) (
+    Path.then (Step.step (_ ∷ []) [] (ProcessStep.steps [] [] (ThreadStep.moves (along (at 61 In0) refl) (Acts.library (LibraryDoes.enters refl ((λ e o f. absurd (false_true e)), tt) (Enters.other (apart _ _ refl) (apart _ _ refl) (apart _ _ refl))))))) (
+    Path.stop))))))))))))))))
+
+pub unlock_in_child_handler : HasRun (child_handler (mutex_call (codes "pthread_mutex_unlock"))) Usual 16 []
+unfolding path_unlock_in_child_handler
+unlock_in_child_handler = record { first = start (child_handler (mutex_call (codes "pthread_mutex_unlock"))); run = run_of path_unlock_in_child_handler; is = record { start = starts (child_handler (mutex_call (codes "pthread_mutex_unlock"))) refl refl; goes = goes_of path_unlock_in_child_handler }; long = refl; breaks = refl }
+
+path_rand_over_fork_handler : Path (program (interrupted_fork_handler false)) (start (interrupted_fork_handler false))
+path_rand_over_fork_handler =
+    Path.then (Step.step [] [] (ProcessStep.steps [] [] (ThreadStep.moves (along (at 50 Leave) refl) (Acts.program (Does.takes_value Evaluates.function))))) (
+    Path.then (Step.step [] [] (ProcessStep.steps [] [] (ThreadStep.moves (along (at 51 Leave) refl) (Acts.program (Does.takes_value Evaluates.constant))))) (
+    Path.then (Step.step [] [] (ProcessStep.steps [] [] (ThreadStep.moves (along (at 52 Leave) refl) (Acts.program (Does.takes_value Evaluates.constant))))) (
+    Path.then (Step.step [] [] (ProcessStep.steps [] [] (ThreadStep.moves (along (at 53 In0) refl) (Acts.library (LibraryDoes.enters refl ((λ e o f. absurd (false_true e)), ((λ e o f. absurd (false_true e)), ((λ e o f. absurd (false_true e)), tt))) (Enters.other (apart _ _ refl) (apart _ _ refl) (apart _ _ refl))))))) (
+    Path.then (Step.step [] [] (ProcessStep.steps [] [] (ThreadStep.moves (along (at 53 Leave) refl) (Acts.library (LibraryDoes.leaves refl refl ((λ e o f. absurd (false_true e)), ((λ e o f. absurd (false_true e)), ((λ e o f. absurd (false_true e)), tt))) (record { written = _; shared = _; mask = _; errno = pos 0; forks = _; v = _; writes = (Writes.skips refl (Writes.skips refl (Writes.skips refl Writes.done))); results = Results.integer {i = pos 0} refl; masks = MaskAfter.other (apart _ _ refl) (apart _ _ refl); errors = refl; registers = ForksAfter.registers refl refl refl; is = refl })))))) (
+    Path.then (Step.step [] [] (ProcessStep.steps [] [] (ThreadStep.moves (along (at 2 Leave) refl) (Acts.program (Does.takes_value Evaluates.constant))))) (
+    Path.then (Step.step [] [] (ProcessStep.steps [] [] (ThreadStep.moves (along (at 3 Leave) refl) (Acts.program (Does.takes_value Evaluates.function))))) (
+    Path.then (Step.step [] [] (ProcessStep.steps [] [] (ThreadStep.moves (along (at 4 In0) refl) (Acts.library (LibraryDoes.enters refl ((λ e o f. absurd (false_true e)), ((λ e o f. absurd (false_true e)), tt)) (Enters.installs (Installs.sets (Sets.by_signal refl refl)))))))) (
+    Path.then (Step.step [] [] (ProcessStep.steps [] [] (ThreadStep.moves (along (at 4 Leave) refl) (Acts.library (LibraryDoes.leaves refl refl ((λ e o f. absurd (false_true e)), ((λ e o f. absurd (false_true e)), tt)) (record { written = _; shared = _; mask = _; errno = pos 0; forks = _; v = _; writes = (Writes.skips refl (Writes.skips refl Writes.done)); results = Results.old; masks = MaskAfter.other (apart _ _ refl) (apart _ _ refl); errors = refl; registers = ForksAfter.keeps; is = refl })))))) (
+    Path.then (Step.step [] [] (ProcessStep.steps [] [] (ThreadStep.moves (along (at 20 In0) refl) (Acts.library (LibraryDoes.enters refl tt Enters.forks))))) (
+    Path.then (Step.step [] [] (ProcessStep.steps [] [] (ThreadStep.handles {r = Prepare} (record { call = _; is = refl; effect = refl; copies = refl }) refl refl refl Makes.none))) (
+    Path.then (Step.step [] [] (ProcessStep.steps [] [] (ThreadStep.arrives 100 101 {sig = 9} {f = 1} {blocks = true} {resets = false} refl refl refl (Defers.signal refl) refl refl Makes.none))) (
+    Path.then (Step.step [] [] (ProcessStep.steps [] [] (ThreadStep.moves (along (at 11 In0) refl) (Acts.library (LibraryDoes.enters refl tt (Enters.other (apart _ _ refl) (apart _ _ refl) (apart _ _ refl))))))) (
+    Path.stop)))))))))))))
+
+pub rand_over_fork_handler : HasRun (interrupted_fork_handler false) Later 13 (U ∷ [])
+unfolding path_rand_over_fork_handler
+rand_over_fork_handler = record { first = start (interrupted_fork_handler false); run = run_of path_rand_over_fork_handler; is = record { start = starts (interrupted_fork_handler false) refl refl; goes = goes_of path_rand_over_fork_handler }; long = refl; breaks = refl }
+
+path_rand_over_safe_fork_handler : Path (program (interrupted_fork_handler true)) (start (interrupted_fork_handler true))
+path_rand_over_safe_fork_handler =
+    Path.then (Step.step [] [] (ProcessStep.steps [] [] (ThreadStep.moves (along (at 50 Leave) refl) (Acts.program (Does.takes_value Evaluates.function))))) (
+    Path.then (Step.step [] [] (ProcessStep.steps [] [] (ThreadStep.moves (along (at 51 Leave) refl) (Acts.program (Does.takes_value Evaluates.constant))))) (
+    Path.then (Step.step [] [] (ProcessStep.steps [] [] (ThreadStep.moves (along (at 52 Leave) refl) (Acts.program (Does.takes_value Evaluates.constant))))) (
+    Path.then (Step.step [] [] (ProcessStep.steps [] [] (ThreadStep.moves (along (at 53 In0) refl) (Acts.library (LibraryDoes.enters refl ((λ e o f. absurd (false_true e)), ((λ e o f. absurd (false_true e)), ((λ e o f. absurd (false_true e)), tt))) (Enters.other (apart _ _ refl) (apart _ _ refl) (apart _ _ refl))))))) (
+    Path.then (Step.step [] [] (ProcessStep.steps [] [] (ThreadStep.moves (along (at 53 Leave) refl) (Acts.library (LibraryDoes.leaves refl refl ((λ e o f. absurd (false_true e)), ((λ e o f. absurd (false_true e)), ((λ e o f. absurd (false_true e)), tt))) (record { written = _; shared = _; mask = _; errno = pos 0; forks = _; v = _; writes = (Writes.skips refl (Writes.skips refl (Writes.skips refl Writes.done))); results = Results.integer {i = pos 0} refl; masks = MaskAfter.other (apart _ _ refl) (apart _ _ refl); errors = refl; registers = ForksAfter.registers refl refl refl; is = refl })))))) (
+    Path.then (Step.step [] [] (ProcessStep.steps [] [] (ThreadStep.moves (along (at 2 Leave) refl) (Acts.program (Does.takes_value Evaluates.constant))))) (
+    Path.then (Step.step [] [] (ProcessStep.steps [] [] (ThreadStep.moves (along (at 3 Leave) refl) (Acts.program (Does.takes_value Evaluates.function))))) (
+    Path.then (Step.step [] [] (ProcessStep.steps [] [] (ThreadStep.moves (along (at 4 In0) refl) (Acts.library (LibraryDoes.enters refl ((λ e o f. absurd (false_true e)), ((λ e o f. absurd (false_true e)), tt)) (Enters.installs (Installs.sets (Sets.by_signal refl refl)))))))) (
+    Path.then (Step.step [] [] (ProcessStep.steps [] [] (ThreadStep.moves (along (at 4 Leave) refl) (Acts.library (LibraryDoes.leaves refl refl ((λ e o f. absurd (false_true e)), ((λ e o f. absurd (false_true e)), tt)) (record { written = _; shared = _; mask = _; errno = pos 0; forks = _; v = _; writes = (Writes.skips refl (Writes.skips refl Writes.done)); results = Results.old; masks = MaskAfter.other (apart _ _ refl) (apart _ _ refl); errors = refl; registers = ForksAfter.keeps; is = refl })))))) (
+    Path.then (Step.step [] [] (ProcessStep.steps [] [] (ThreadStep.moves (along (at 20 In0) refl) (Acts.library (LibraryDoes.enters refl tt Enters.forks))))) (
+    Path.then (Step.step [] [] (ProcessStep.steps [] [] (ThreadStep.handles {r = Prepare} (record { call = _; is = refl; effect = refl; copies = refl }) refl refl refl Makes.none))) (
+    Path.then (Step.step [] [] (ProcessStep.steps [] [] (ThreadStep.arrives 100 101 {sig = 9} {f = 1} {blocks = true} {resets = false} refl refl refl (Defers.signal refl) refl refl Makes.none))) (
+    Path.then (Step.step [] [] (ProcessStep.steps [] [] (ThreadStep.moves (along (at 11 In0) refl) (Acts.library (LibraryDoes.enters refl tt (Enters.other (apart _ _ refl) (apart _ _ refl) (apart _ _ refl))))))) (
+    Path.stop)))))))))))))
+
+pub rand_over_safe_fork_handler : HasRun (interrupted_fork_handler true) Usual 13 []
+unfolding path_rand_over_safe_fork_handler
+rand_over_safe_fork_handler = record { first = start (interrupted_fork_handler true); run = run_of path_rand_over_safe_fork_handler; is = record { start = starts (interrupted_fork_handler true) refl refl; goes = goes_of path_rand_over_safe_fork_handler }; long = refl; breaks = refl }
+
+path_fork_in_exit : Path (program (one_handler sigint fork_later)) (start (one_handler sigint fork_later))
+path_fork_in_exit =
+    Path.then (Step.step [] [] (ProcessStep.steps [] [] (ThreadStep.moves (along (at 2 Leave) refl) (Acts.program (Does.takes_value Evaluates.constant))))) (
+    Path.then (Step.step [] [] (ProcessStep.steps [] [] (ThreadStep.moves (along (at 3 Leave) refl) (Acts.program (Does.takes_value Evaluates.function))))) (
+    Path.then (Step.step [] [] (ProcessStep.steps [] [] (ThreadStep.moves (along (at 4 In0) refl) (Acts.library (LibraryDoes.enters refl ((λ e o f. absurd (false_true e)), ((λ e o f. absurd (false_true e)), tt)) (Enters.installs (Installs.sets (Sets.by_signal refl refl)))))))) (
+    Path.then (Step.step [] [] (ProcessStep.steps [] [] (ThreadStep.moves (along (at 4 Leave) refl) (Acts.library (LibraryDoes.leaves refl refl ((λ e o f. absurd (false_true e)), ((λ e o f. absurd (false_true e)), tt)) (record { written = _; shared = _; mask = _; errno = pos 0; forks = _; v = _; writes = (Writes.skips refl (Writes.skips refl Writes.done)); results = Results.old; masks = MaskAfter.other (apart _ _ refl) (apart _ _ refl); errors = refl; registers = ForksAfter.keeps; is = refl })))))) (
+    Path.then (Step.step [] [] (ProcessStep.steps [] [] (ThreadStep.moves (along (at 1 Leave) refl) (Acts.program (Does.closes (Closes.main refl)))))) (
+    Path.then (Step.step [] [] (ProcessStep.steps [] [] (ThreadStep.moves (along (at 1 Finish) refl) (Acts.program (Does.passes))))) (
+    Path.then (Step.step [] [] (ProcessStep.steps [] [] (ThreadStep.arrives 100 101 {sig = 9} {f = 1} {blocks = true} {resets = false} refl refl refl (Defers.signal refl) refl refl Makes.none))) (
+    Path.then (Step.step [] [] (ProcessStep.steps [] [] (ThreadStep.moves (along (at 11 In0) refl) (Acts.library (LibraryDoes.enters refl tt Enters.forks))))) (
+    Path.stop))))))))
+
+pub fork_in_exit : HasRun (one_handler sigint fork_later) Later 8 (U ∷ [])
+unfolding path_fork_in_exit
+fork_in_exit = record { first = start (one_handler sigint fork_later); run = run_of path_fork_in_exit; is = record { start = starts (one_handler sigint fork_later) refl refl; goes = goes_of path_fork_in_exit }; long = refl; breaks = refl }
+
+path_split_in_exit : Path (program (one_handler sigint split)) (start (one_handler sigint split))
+path_split_in_exit =
+    Path.then (Step.step [] [] (ProcessStep.steps [] [] (ThreadStep.moves (along (at 2 Leave) refl) (Acts.program (Does.takes_value Evaluates.constant))))) (
+    Path.then (Step.step [] [] (ProcessStep.steps [] [] (ThreadStep.moves (along (at 3 Leave) refl) (Acts.program (Does.takes_value Evaluates.function))))) (
+    Path.then (Step.step [] [] (ProcessStep.steps [] [] (ThreadStep.moves (along (at 4 In0) refl) (Acts.library (LibraryDoes.enters refl ((λ e o f. absurd (false_true e)), ((λ e o f. absurd (false_true e)), tt)) (Enters.installs (Installs.sets (Sets.by_signal refl refl)))))))) (
+    Path.then (Step.step [] [] (ProcessStep.steps [] [] (ThreadStep.moves (along (at 4 Leave) refl) (Acts.library (LibraryDoes.leaves refl refl ((λ e o f. absurd (false_true e)), ((λ e o f. absurd (false_true e)), tt)) (record { written = _; shared = _; mask = _; errno = pos 0; forks = _; v = _; writes = (Writes.skips refl (Writes.skips refl Writes.done)); results = Results.old; masks = MaskAfter.other (apart _ _ refl) (apart _ _ refl); errors = refl; registers = ForksAfter.keeps; is = refl })))))) (
+    Path.then (Step.step [] [] (ProcessStep.steps [] [] (ThreadStep.moves (along (at 1 Leave) refl) (Acts.program (Does.closes (Closes.main refl)))))) (
+    Path.then (Step.step [] [] (ProcessStep.steps [] [] (ThreadStep.moves (along (at 1 Finish) refl) (Acts.program (Does.passes))))) (
+    Path.then (Step.step [] [] (ProcessStep.steps [] [] (ThreadStep.arrives 100 101 {sig = 9} {f = 1} {blocks = true} {resets = false} refl refl refl (Defers.signal refl) refl refl Makes.none))) (
+    Path.then (Step.step [] [] (ProcessStep.steps [] [] (ThreadStep.moves (along (at 11 In0) refl) (Acts.library (LibraryDoes.enters refl tt (Enters.other (apart _ _ refl) (apart _ _ refl) (apart _ _ refl))))))) (
+    Path.stop))))))))
+
+pub split_in_exit : HasRun (one_handler sigint split) Later 8 []
+unfolding path_split_in_exit
+split_in_exit = record { first = start (one_handler sigint split); run = run_of path_split_in_exit; is = record { start = starts (one_handler sigint split) refl refl; goes = goes_of path_split_in_exit }; long = refl; breaks = refl }
+
 pub breaking : RunsThatBreakARule
-breaking = record { rand_in_exit = rand_in_exit; rand_in_helper_of_nested_handler = rand_in_helper_of_nested_handler; static_assigned = static_assigned; errno_changed = errno_changed; errno_changed_by_helper = errno_changed_by_helper; rand_in_child = rand_in_child; rand_in_child_behind_helper = rand_in_child_behind_helper; rand_in_prepare_handler = rand_in_prepare_handler; sigprocmask_among_threads = sigprocmask_among_threads; fault_handler_returns = fault_handler_returns }
+breaking = record { rand_in_exit = rand_in_exit; rand_in_helper_of_nested_handler = rand_in_helper_of_nested_handler; static_assigned = static_assigned; errno_changed = errno_changed; errno_changed_by_helper = errno_changed_by_helper; rand_in_child = rand_in_child; rand_in_child_behind_helper = rand_in_child_behind_helper; rand_in_prepare_handler = rand_in_prepare_handler; sigprocmask_among_threads = sigprocmask_among_threads; fault_handler_returns = fault_handler_returns; lock_in_child_handler = lock_in_child_handler; rand_over_fork_handler = rand_over_fork_handler; fork_in_exit = fork_in_exit }
 
 pub mended : RunsThatBreakNone
-mended = record { getpid_in_exit = getpid_in_exit; getpid_in_helper_of_nested_handler = getpid_in_helper_of_nested_handler; flag_assigned = flag_assigned; errno_left = errno_left; errno_kept_by_helper = errno_kept_by_helper; getpid_in_child = getpid_in_child; getpid_in_child_behind_helper = getpid_in_child_behind_helper; getpid_in_prepare_handler = getpid_in_prepare_handler; pthread_sigmask_among_threads = pthread_sigmask_among_threads }
+mended = record { getpid_in_exit = getpid_in_exit; getpid_in_helper_of_nested_handler = getpid_in_helper_of_nested_handler; flag_assigned = flag_assigned; errno_left = errno_left; errno_kept_by_helper = errno_kept_by_helper; getpid_in_child = getpid_in_child; getpid_in_child_behind_helper = getpid_in_child_behind_helper; getpid_in_prepare_handler = getpid_in_prepare_handler; pthread_sigmask_among_threads = pthread_sigmask_among_threads; unlock_in_child_handler = unlock_in_child_handler; rand_over_safe_fork_handler = rand_over_safe_fork_handler; split_in_exit = split_in_exit }

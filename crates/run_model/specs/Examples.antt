@@ -1,9 +1,9 @@
 -- Programs with a run that breaks a rule, and the same mended.
-use Rattle.std.specs.Prelude.{ℕ, ℤ, pos, List, [], ◌∷◌, ◌++◌, None, Bool, true, false, codes}
+use Rattle.std.specs.Prelude.{not, ℕ, ℤ, pos, List, [], ◌∷◌, ◌++◌, None, Bool, true, false, codes}
 use Rattle.base_core.specs.declared.id.Pos.{Pos}
 use Rattle.base_core.specs.declared.id.Phase.TheVariants.{Enter, In0, In1, Leave, Finish}
 use Rattle.base_core.specs.declared.rules.Rule.TheVariants.{U, S, E, F, A, M, R}
-use Rattle.base_core.specs.declared.rules.Rules.TheVariants.{Usual}
+use Rattle.base_core.specs.declared.rules.Rules.TheVariants.{Usual, Later}
 use Rattle.posix_table.specs.declared.kind.Param.TheVariants as letter
 use Rattle.posix_table.specs.declared.kind.ResultKind.TheVariants as result
 use Rattle.posix_table.specs.declared.kind.Effect.TheVariants as effect
@@ -78,6 +78,7 @@ one_handler sig f = record {
   functions = main_function ∷ handler_function 10 ∷ [];
   variables = [];
   statics = [];
+  fork_unsafe = false;
 }
 
 -- void h(int) { }  void k(int) { help(); }  void help(void) { F(); }  int main(void) { signal(SIGINT, h); signal(SIGTERM, k); }
@@ -107,6 +108,7 @@ two_handlers f = record {
   functions = main_function ∷ handler_function 10 ∷ handler_function 20 ∷ void_function 30 ∷ [];
   variables = [];
   statics = [];
+  fork_unsafe = false;
 }
 
 -- int n;  void h(int) { n = 0; }  int main(void) { signal(SIGINT, h); .. }, where n is a volatile sig_atomic_t or isn't
@@ -127,6 +129,7 @@ writes_static is_flag = record {
   functions = main_function ∷ handler_function 10 ∷ [];
   variables = record { kind = Number int; constant = false; flag = is_flag } ∷ [];
   statics = record { origin = OfVariable 0; kind = Number int; initial = ZeroInitial } ∷ [];
+  fork_unsafe = false;
 }
 
 -- void h(int) { F(0); }  int main(void) { signal(SIG, h); .. }
@@ -147,6 +150,7 @@ with_argument sig f = record {
   functions = main_function ∷ handler_function 10 ∷ [];
   variables = [];
   statics = [];
+  fork_unsafe = false;
 }
 
 -- void help(void) { errno = X; }  void h(int) { help(); }  int main(void) { signal(SIGINT, h); .. }, where X is 1 or errno
@@ -170,6 +174,7 @@ helper_assigns a = record {
   functions = main_function ∷ handler_function 10 ∷ void_function 30 ∷ [];
   variables = [];
   statics = [];
+  fork_unsafe = false;
 }
 
 -- void *work(void *) { return 0; }  int main(void) { pthread_create(0, 0, work, 0); .. }: the ways up to the Leave of the call
@@ -191,6 +196,13 @@ work = record { node = 70; result = Pointer; parameters = record { variable = No
 abbrev pub fork : LibraryCall
 fork = library (codes "fork") true [] result.Int effect.Fork []
 
+-- fork and _Fork as the later profile has them
+abbrev pub fork_later : LibraryCall
+fork_later = library (codes "fork") false [] result.Int effect.Fork []
+
+abbrev pub split : LibraryCall
+split = library (codes "_Fork") true [] result.Int effect.Split []
+
 -- .. fork(); F(); }
 abbrev pub forks_and_calls : LibraryCall → Outline
 forks_and_calls f = record {
@@ -205,6 +217,7 @@ forks_and_calls f = record {
   functions = main_function ∷ work ∷ [];
   variables = [];
   statics = [];
+  fork_unsafe = false;
 }
 
 -- int spawn(void) { return fork(); }  .. spawn(); F(); }
@@ -225,6 +238,7 @@ spawns_and_calls f = record {
   functions = main_function ∷ work ∷ record { node = 23; result = Number int; parameters = []; locals = [] } ∷ [];
   variables = [];
   statics = [];
+  fork_unsafe = false;
 }
 
 -- void prep(void) { F(); }  void h(int) { fork(); }  int main(void) { pthread_atfork(prep, 0, 0); signal(SIGINT, h); .. }
@@ -251,6 +265,7 @@ fork_handler f = record {
   functions = main_function ∷ handler_function 10 ∷ void_function 60 ∷ [];
   variables = [];
   statics = [];
+  fork_unsafe = false;
 }
 
 -- .. F(0, 0, 0); }, where F is sigprocmask or pthread_sigmask
@@ -267,6 +282,58 @@ masks f = record {
   functions = main_function ∷ work ∷ [];
   variables = [];
   statics = [];
+  fork_unsafe = false;
+}
+
+-- .. pthread_atfork(0, 0, chld);  fork(); }  void chld(void) { F(0); }
+abbrev pub child_handler : LibraryCall → Outline
+child_handler f = record {
+  ways = creates_thread ++
+      way (at 44 Leave) (Take 50 (Constant (pos 0))) (at 50 Leave) ∷
+      way (at 50 Leave) (Take 51 (Constant (pos 0))) (at 51 Leave) ∷
+      way (at 51 Leave) (Take 52 (FunctionName 2)) (at 52 Leave) ∷
+      way (at 52 Leave) (Into 53) (at 53 In0) ∷
+      way (at 53 In0) (Out 53) (at 53 Leave) ∷
+      way (at 53 Leave) (Into 20) (at 20 In0) ∷
+      way (at 20 In0) Apart (at 20 In1) ∷
+      way (at 60 Enter) (Take 12 (Constant (pos 0))) (at 12 Leave) ∷
+      way (at 12 Leave) (Into 61) (at 61 In0) ∷ [];
+  kinds = said 20 (Number long) ∷ said 44 (Number long) ∷ said 53 (Number long) ∷ said 60 Void ∷ said 61 (Number long) ∷ [];
+  places = [];
+  calls = said 44 (Library pthread_create) ∷ said 53 (Library pthread_atfork) ∷ said 20 (Library fork) ∷ said 61 (Library f) ∷ [];
+  functions = main_function ∷ work ∷ void_function 60 ∷ [];
+  variables = [];
+  statics = [];
+  fork_unsafe = false;
+}
+
+abbrev pub mutex_call : List ℕ → LibraryCall
+mutex_call name = library name false (letter.Kernel ∷ []) result.Int effect.Plain (12 ∷ [])
+
+-- void prep(void) { .. }  void h(int) { rand(); }  int main(void) { pthread_atfork(prep, 0, 0); signal(SIGINT, h); fork(); .. }, where fork is
+-- safe or isn't
+abbrev pub interrupted_fork_handler : (is_safe : Bool) → Outline
+interrupted_fork_handler is_safe = record {
+  ways =
+      way (at 1 Enter) (Take 50 (FunctionName 2)) (at 50 Leave) ∷
+      way (at 50 Leave) (Take 51 (Constant (pos 0))) (at 51 Leave) ∷
+      way (at 51 Leave) (Take 52 (Constant (pos 0))) (at 52 Leave) ∷
+      way (at 52 Leave) (Into 53) (at 53 In0) ∷
+      way (at 53 In0) (Out 53) (at 53 Leave) ∷
+      way (at 53 Leave) (Take 2 (Constant sigint)) (at 2 Leave) ∷
+      way (at 2 Leave) (Take 3 (FunctionName 1)) (at 3 Leave) ∷
+      way (at 3 Leave) (Into 4) (at 4 In0) ∷
+      way (at 4 In0) (Out 4) (at 4 Leave) ∷
+      way (at 4 Leave) (Into 20) (at 20 In0) ∷
+      way (at 20 In0) Apart (at 20 In1) ∷
+      way (at 10 Enter) (Into 11) (at 11 In0) ∷ [];
+  kinds = said 10 Void ∷ said 11 (Number long) ∷ said 20 (Number long) ∷ said 53 (Number long) ∷ said 60 Void ∷ [];
+  places = [];
+  calls = said 4 (Library (signal 2 3)) ∷ said 53 (Library pthread_atfork) ∷ said 20 (Library (library (codes "fork") is_safe [] result.Int effect.Fork [])) ∷ said 11 (Library rand) ∷ [];
+  functions = main_function ∷ handler_function 10 ∷ void_function 60 ∷ [];
+  variables = [];
+  statics = [];
+  fork_unsafe = not is_safe;
 }
 
 -- ---- the runs
@@ -285,6 +352,12 @@ pub record RunsThatBreakARule : Type 0 where
   pub rand_in_prepare_handler : HasRun (fork_handler rand) Usual 13 (A ∷ [])
   pub sigprocmask_among_threads : HasRun (masks sigprocmask) Usual 10 (M ∷ [])
   pub fault_handler_returns : HasRun (with_argument sigsegv wtermsig) Usual 10 (R ∷ [])
+  -- a child fork handler may unlock a mutex, and not lock one
+  pub lock_in_child_handler : HasRun (child_handler (mutex_call (codes "pthread_mutex_lock"))) Usual 16 (F ∷ [])
+  -- under the later profile a prepare handler is in fork, which is unsafe
+  pub rand_over_fork_handler : HasRun (interrupted_fork_handler false) Later 13 (U ∷ [])
+  -- and so is fork itself
+  pub fork_in_exit : HasRun (one_handler sigint fork_later) Later 8 (U ∷ [])
 
 -- the same programs mended have runs of the same length in which no step breaks a rule
 pub record RunsThatBreakNone : Type 0 where
@@ -297,3 +370,6 @@ pub record RunsThatBreakNone : Type 0 where
   pub getpid_in_child_behind_helper : HasRun (spawns_and_calls getpid) Usual 15 []
   pub getpid_in_prepare_handler : HasRun (fork_handler getpid) Usual 13 []
   pub pthread_sigmask_among_threads : HasRun (masks pthread_sigmask) Usual 10 []
+  pub unlock_in_child_handler : HasRun (child_handler (mutex_call (codes "pthread_mutex_unlock"))) Usual 16 []
+  pub rand_over_safe_fork_handler : HasRun (interrupted_fork_handler true) Usual 13 []
+  pub split_in_exit : HasRun (one_handler sigint split) Later 8 []

@@ -41,6 +41,7 @@ pub record Outline : Type 0 where
   pub functions : List Function
   pub variables : List VariableInfo
   pub statics : List Static
+  pub fork_unsafe : Bool
 
 abbrev pub same_phase : Phase → Phase → Bool
 same_phase Enter Enter = true
@@ -91,7 +92,7 @@ program o = record {
   matches = λ n f. true;
   variable = λ v. variable_or (slice_get o.variables v);
   statics = o.statics;
-  fork_unsafe = false;
+  fork_unsafe = o.fork_unsafe;
 }
 
 -- a call of a library function with this row

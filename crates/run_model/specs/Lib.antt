@@ -31,3 +31,4 @@ pub mod StepLaws
 pub mod Outlines
 pub mod Examples
 pub mod Cases
+pub mod OfKinds

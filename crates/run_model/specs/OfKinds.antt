@@ -1,5 +1,5 @@
 -- What a run must know of a type, from the type itself.
-use Rattle.std.specs.Prelude.{ℕ, cond, nat_eq, Option, Some, None, map, List}
+use Rattle.std.specs.Prelude.{ℕ, cond, nat_eq, Option, Some, None}
 use Rattle.c_kinds.specs.Kind as types
 use Rattle.run_model.specs.Kinds.{Kind, Void, Number, Pointer, FnPointer, SetKind, ActionKind, ArrayKind, PartsKind}
 

@@ -10,3 +10,4 @@ mod StepLaws
 mod Paths
 mod Examples
 mod Cases
+mod Lawful

@@ -8,9 +8,10 @@ use Rattle.posix_table.specs.declared.kind.Param.TheVariants as letter
 use Rattle.posix_table.specs.declared.kind.ResultKind.TheVariants as result
 use Rattle.posix_table.specs.declared.kind.Effect.TheVariants as effect
 use Rattle.c_arithmetic.specs.Types.{int, long}
-use Rattle.run_model.specs.Kinds.{Void, Number, Pointer}
+use Rattle.run_model.specs.Kinds.{Void, Number, Pointer, FnPointer}
 use Rattle.run_model.specs.Code.{at, Always, Constant, FunctionName, Action, Pass, Take, Designate, Read, Assign, Return, Into, Out, Forked, Apart, Close, Variable, ErrnoPlace, OfVariable, ZeroInitial, Named, User, Library, LibraryCall, Function}
-use Rattle.run_model.specs.Outlines.{Way, said, Outline, library, HasRun}
+use Rattle.run_model.specs.Owed.{IsCode}
+use Rattle.run_model.specs.Outlines.{program, Way, said, Outline, library, HasRun}
 
 abbrev pub way : Pos → Action → Pos → Way
 way p a q = record { from = p; guard = Always; does = a; to = q }
@@ -72,7 +73,7 @@ one_handler sig f = record {
       way (at 10 Enter) (Into 11) (at 11 In0) ∷
       way (at 11 In0) (Out 11) (at 11 Leave) ∷
       way (at 11 Leave) (Close 1) (at 10 Leave) ∷ [];
-  kinds = said 10 Void ∷ said 11 (Number long) ∷ [];
+  kinds = said 4 FnPointer ∷ said 10 Void ∷ said 11 (Number long) ∷ [];
   places = [];
   calls = said 4 (Library (signal 2 3)) ∷ said 11 (Library f) ∷ [];
   functions = main_function ∷ handler_function 10 ∷ [];
@@ -373,3 +374,7 @@ pub record RunsThatBreakNone : Type 0 where
   pub unlock_in_child_handler : HasRun (child_handler (mutex_call (codes "pthread_mutex_unlock"))) Usual 16 []
   pub rand_over_safe_fork_handler : HasRun (interrupted_fork_handler true) Usual 13 []
   pub split_in_exit : HasRun (one_handler sigint split) Later 8 []
+
+-- what is asked of a program is met by one of these
+abbrev pub ExampleIsCode : Type 0
+ExampleIsCode = IsCode (program (one_handler sigint rand))

@@ -10,7 +10,7 @@ use Rattle.posix_table.specs.declared.kind.Param.{Param}
 use Rattle.posix_table.specs.declared.kind.ResultKind.{ResultKind}
 use Rattle.posix_table.specs.declared.kind.Effect.{Effect}
 use Rattle.c_arithmetic.specs.Types.{int}
-use Rattle.run_model.specs.Kinds.{Kind, Number}
+use Rattle.run_model.specs.Kinds.{Kind, Void, Number}
 use Rattle.run_model.specs.Code.{Guard, Edge, Place, Action, Pass, CallOf, NoCall, LibraryCall, Function, VariableInfo, Static, Code}
 use Rattle.run_model.specs.World.{World}
 use Rattle.run_model.specs.ProcessSteps.{Label}
@@ -83,7 +83,7 @@ program o = record {
   has = λ f p. true;
   next = edges_from o.ways;
   action = done_between o.ways;
-  kind = about (Number int) o.kinds;
+  kind = about (Number int) (said 0 Void ∷ o.kinds);
   place = about_place o.places;
   pending = λ n p. true;
   call = about NoCall o.calls;

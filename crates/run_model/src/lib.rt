@@ -13,7 +13,7 @@ mod law;
 mod step_law;
 
 pub use case::cases_are_decided;
-pub use example::{runs_break_each_rule, runs_break_none};
+pub use example::{example_is_code, runs_break_each_rule, runs_break_none};
 pub use law::{
     arrivals_keep_mask, end_is_end, every_program_starts, frames_stand_at_positions,
     integers_lie_in_their_types, mask_comes_back, prefixes_are_runs,

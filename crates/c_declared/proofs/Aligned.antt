@@ -9,9 +9,10 @@ use Rattle.c_environment.specs.Entity.{DeclaredType, Members, with_member}
 use Rattle.c_environment.specs.Environment.{Environment, value, entered, with_entity, with_optional_tag}
 use Rattle.c_environment.specs.Types.{specified}
 use Rattle.c_environment.specs.Behind.{opened, behind_expression, behind_type, behind_sizes, behind_specifier, behind_specifiers, behind_declarators, behind_declarator, behind_form, declared, declared_members}
-use Rattle.c_declared.specs.Said.{Said, both, node}
+use Rattle.c_declared.specs.Said.{Said, both}
+use Rattle.c_declared.specs.Faults.{tag_word}
 use Rattle.c_declared.specs.Operands.{Rows, as_callee}
-use Rattle.c_declared.specs.Nodes.{operand, below, said, said_expressions, said_sizes, said_type, said_specifiers, said_specifier, said_members, said_declarators, said_enumerators, said_declarator, said_parameters, said_form, said_bare}
+use Rattle.c_declared.specs.Nodes.{operand, expression_node, below, said, said_expressions, said_sizes, said_type, said_specifiers, said_specifier, said_members, said_declarators, said_enumerators, said_declarator, said_parameters, said_form, said_bare}
 
 -- one part, and then another
 pub two : (s t : Said) (a b : List Node) → length s.all ≡ length a → length t.all ≡ length b → length (both s t).all ≡ length (a ++ b)
@@ -46,7 +47,7 @@ mutual
   expression_aligned rows env (size_of_type t) = ap suc (type_aligned rows env t)
   expression_aligned rows env (index x y) = pair rows env x y (expression_aligned rows env x) (expression_aligned rows (behind_expression env x) y)
   expression_aligned rows env (call f xs) =
-      ap suc (two (node (as_callee (behind_expression env f) f (operand rows env f)).judged (below rows env f)) (said_expressions rows (behind_expression env f) xs) (nodes_expression f) (nodes_expressions xs) (expression_aligned rows env f) (expressions_aligned rows (behind_expression env f) xs))
+      ap suc (two (expression_node env f (as_callee (behind_expression env f) f (operand rows env f)).judged (below rows env f)) (said_expressions rows (behind_expression env f) xs) (nodes_expression f) (nodes_expressions xs) (expression_aligned rows env f) (expressions_aligned rows (behind_expression env f) xs))
   expression_aligned rows env (dot x m) = ap suc (expression_aligned rows env x)
   expression_aligned rows env (arrow x m) = ap suc (expression_aligned rows env x)
   expression_aligned rows env (after o x) = ap suc (expression_aligned rows env x)
@@ -89,17 +90,17 @@ mutual
       let t = specified env ws in
       let further = behind_declarators inner ds in
       let ones = declared_members inner earlier t ds in
-      three (said_specifiers rows env ws) (said_declarators rows inner earlier ws t ds) (said_members rows further ones ms) (nodes_specifiers ws) (nodes_declarators ds) (nodes_members ms)
-      (specifiers_aligned rows env ws) (declarators_aligned rows inner earlier ws t ds) (members_aligned rows further ones ms)
+      three (said_specifiers rows env ws) (said_declarators rows inner earlier (tag_word ws) t ds) (said_members rows further ones ms) (nodes_specifiers ws) (nodes_declarators ds) (nodes_members ms)
+      (specifiers_aligned rows env ws) (declarators_aligned rows inner earlier (tag_word ws) t ds) (members_aligned rows further ones ms)
 
-  pub declarators_aligned : (rows : Rows) (env : Environment) (earlier : Members) (ws : Specifiers) (t : DeclaredType) (ds : Declarators) →
-      length (said_declarators rows env earlier ws t ds).all ≡ length (nodes_declarators ds)
-  declarators_aligned rows env earlier ws t no_declarators = refl
-  declarators_aligned rows env earlier ws t (declarators d ds) =
+  pub declarators_aligned : (rows : Rows) (env : Environment) (earlier : Members) (word : Option Specifier) (t : DeclaredType) (ds : Declarators) →
+      length (said_declarators rows env earlier word t ds).all ≡ length (nodes_declarators ds)
+  declarators_aligned rows env earlier word t no_declarators = refl
+  declarators_aligned rows env earlier word t (declarators d ds) =
       let further = behind_declarator env d in
       let ones = with_member earlier (declarator_name d) (declared env t d).kind in
-      ap suc (two (said_declarator rows env d) (said_declarators rows further ones ws t ds) (nodes_declarator d) (nodes_declarators ds)
-      (declarator_aligned rows env d) (declarators_aligned rows further ones ws t ds))
+      ap suc (two (said_declarator rows env d) (said_declarators rows further ones word t ds) (nodes_declarator d) (nodes_declarators ds)
+      (declarator_aligned rows env d) (declarators_aligned rows further ones word t ds))
 
   pub enumerators_aligned : (rows : Rows) (env : Environment) (previous : Option ℤ) (es : Enumerators) →
       length (said_enumerators rows env previous es).all ≡ length (nodes_enumerators es)
@@ -126,15 +127,15 @@ mutual
   parameters_aligned rows has_body env (parameters ws f ps) =
       let s = said_specifiers rows env ws in
       let further = behind_form has_body (behind_specifiers env ws) (specified env ws) f in
-      two (said_form rows env ws s f) (said_parameters rows has_body further ps) (nodes_form (nodes_specifiers ws) ws f) (nodes_parameters ps)
-      (form_aligned rows env ws s (nodes_specifiers ws) f (specifiers_aligned rows env ws)) (parameters_aligned rows has_body further ps)
+      two (said_form rows has_body env ws s f) (said_parameters rows has_body further ps) (nodes_form (nodes_specifiers ws) ws f) (nodes_parameters ps)
+      (form_aligned rows has_body env ws s (nodes_specifiers ws) f (specifiers_aligned rows env ws)) (parameters_aligned rows has_body further ps)
 
-  pub form_aligned : (rows : Rows) (env : Environment) (ws : Specifiers) (inside : Said) (ns : List Node) (f : ParameterForm) → length inside.all ≡ length ns →
-      length (said_form rows env ws inside f).all ≡ length (nodes_form ns ws f)
-  form_aligned rows env ws inside ns (named_form d) h =
+  pub form_aligned : (rows : Rows) (has_body : Bool) (env : Environment) (ws : Specifiers) (inside : Said) (ns : List Node) (f : ParameterForm) → length inside.all ≡ length ns →
+      length (said_form rows has_body env ws inside f).all ≡ length (nodes_form ns ws f)
+  form_aligned rows has_body env ws inside ns (named_form d) h =
       let inner = behind_specifiers env ws in
       ap suc (two inside (said_declarator rows inner d) ns (nodes_declarator d) h (declarator_aligned rows inner d))
-  form_aligned rows env ws inside ns (bare_form b) h =
+  form_aligned rows has_body env ws inside ns (bare_form b) h =
       let inner = behind_specifiers env ws in
       two inside (said_bare rows inner b) ns (nodes_bare b) h (bare_aligned rows inner b)
 

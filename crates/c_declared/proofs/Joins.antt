@@ -2,7 +2,7 @@
 use Rattle.std.proofs.Common.{◌≡◌, List, [], ◌∷◌, ◌++◌, length, Bool, true, false, ◌||◌, ◌&&◌, refl, ap, ◌∙◌}
 use Rattle.c_judgements.specs.Parts.{added}
 use Rattle.c_judgements.proofs.Grows as grows
-use Rattle.c_rules.specs.Judgement.{Judgement}
+use Rattle.c_bindings.specs.Told.{Told}
 use Rattle.c_declared.specs.declared.faults.Faults.{Faults}
 use Rattle.c_declared.specs.Faults.{no_faults, faults_of_both}
 
@@ -39,12 +39,12 @@ faults_last f =
     of_same (f.unknown || false) f.unknown (f.repeated || false) f.repeated (f.passed || false) f.passed (f.incomplete || false) f.incomplete
     (or_false f.unknown) (or_false f.repeated) (or_false f.passed) (or_false f.incomplete)
 
-pub added_twice : (xs ys : List Judgement) (ps : List (List Judgement)) → added ys (added xs ps) ≡ added (xs ++ ys) ps
+pub added_twice : (xs ys : List Told) (ps : List (List Told)) → added ys (added xs ps) ≡ added (xs ++ ys) ps
 added_twice xs ys ps = grows.added_twice xs ys ps
 
-pub added_none : (ps : List (List Judgement)) → added [] ps ≡ ps
+pub added_none : (ps : List (List Told)) → added [] ps ≡ ps
 added_none ps = grows.added_none ps
 
-pub length_added : (xs : List Judgement) (ps : List (List Judgement)) → length (added xs ps) ≡ length ps
+pub length_added : (xs : List Told) (ps : List (List Told)) → length (added xs ps) ≡ length ps
 length_added xs [] = refl
 length_added xs (p ∷ ps) = refl

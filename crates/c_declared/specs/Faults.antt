@@ -58,11 +58,18 @@ abbrev pub structure_unknown : Environment → Option (Option ℕ) → Bool
 structure_unknown env (Some (Some k)) = is_undeclared (structure_at env k)
 structure_unknown env _ = true
 
-abbrev pub tag_unknown : Environment → Specifiers → Bool
-tag_unknown env no_specifiers = false
-tag_unknown env (specifiers (struct_tag n) ws) = structure_unknown env (tag env n)
-tag_unknown env (specifiers (enum_tag n) ws) = is_none (tag env n)
-tag_unknown env (specifiers w ws) = tag_unknown env ws
+-- the tag among the specifiers that stands without members or enumerators
+abbrev pub tag_word : Specifiers → Option Specifier
+tag_word no_specifiers = None
+tag_word (specifiers (struct_tag n) ws) = Some (struct_tag n)
+tag_word (specifiers (enum_tag n) ws) = Some (enum_tag n)
+tag_word (specifiers w ws) = tag_word ws
+
+-- specifiers with this one have a tag that isn't declared
+abbrev pub tag_unknown : Environment → Option Specifier → Bool
+tag_unknown env (Some (struct_tag n)) = structure_unknown env (tag env n)
+tag_unknown env (Some (enum_tag n)) = is_none (tag env n)
+tag_unknown env _ = false
 
 -- ---- objects (6.7p7)
 
@@ -80,13 +87,13 @@ incomplete_type env t = is_some (object_misfit (is_complete env (innermost t.kin
 abbrev pub is_passed : Kind → Bool
 is_passed k = is_some (passed_misfit k)
 
--- An object with these specifiers, or a parameter, before its declarator and behind it: whether it has their type itself, without a star, and
--- the type that it has. Its tag is declared before, its type is complete behind (6.7p7).
-abbrev pub object_faults : Environment → Environment → Specifiers → Bool → DeclaredType → Faults
-object_faults env further ws is_own t = record { unknown = is_own && tag_unknown env ws; repeated = false; passed = false; incomplete = incomplete_type further t }
+-- An object whose specifiers have this tag, or a parameter, before its declarator and behind it: whether it has their type itself, without a
+-- star, and the type that it has. Its tag is declared before, its type is complete behind (6.7p7).
+abbrev pub object_faults : Environment → Environment → Option Specifier → Bool → DeclaredType → Faults
+object_faults env further word is_own t = record { unknown = is_own && tag_unknown env word; repeated = false; passed = false; incomplete = incomplete_type further t }
 
-abbrev pub parameter_faults : Environment → Environment → Specifiers → Bool → DeclaredType → Faults
-parameter_faults env further ws is_own t = record (object_faults env further ws is_own t) { passed = is_passed t.kind }
+abbrev pub parameter_faults : Environment → Environment → Option Specifier → Bool → DeclaredType → Faults
+parameter_faults env further word is_own t = record (object_faults env further word is_own t) { passed = is_passed t.kind }
 
 abbrev pub result_faults : DeclaredType → Faults
 result_faults t = record no_faults { passed = is_passed t.kind }
@@ -136,7 +143,7 @@ abbrev mutual
   faults_form env ws (bare_form b) =
       faults_of_both (faults_specifiers env ws)
       (faults_of_both
-      (parameter_faults (behind_specifiers env ws) (behind_bare (behind_specifiers env ws) b) ws (is_own_bare b) (adjusted (bare (behind_specifiers env ws) (specified env ws) b)))
+      (parameter_faults (behind_specifiers env ws) (behind_bare (behind_specifiers env ws) b) (tag_word ws) (is_own_bare b) (adjusted (bare (behind_specifiers env ws) (specified env ws) b)))
       (faults_bare (behind_specifiers env ws) (specified env ws) b))
 
   pub faults_bare : Environment → DeclaredType → BareTree → Faults

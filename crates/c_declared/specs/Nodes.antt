@@ -21,10 +21,12 @@ use Rattle.c_rules.specs.Operators as operators
 use Rattle.c_rules.specs.Values as values
 use Rattle.c_rules.specs.Access as access
 use Rattle.c_rules.specs.Conversions as conversions
-use Rattle.c_declared.specs.Said.{Said, nothing, both, node, once}
+use Rattle.c_bindings.specs.declared.binding.Binding.{Binding}
+use Rattle.c_bindings.specs.Binding.{bound_to}
+use Rattle.c_declared.specs.Said.{Said, nothing, both, node, named_node, valued_node, once}
 use Rattle.c_declared.specs.Operands.{Rows, valued, placed, named_operand, row_of, called, as_callee, member_kind, pointed_member}
 use Rattle.c_declared.specs.declared.faults.Faults.{Faults}
-use Rattle.c_declared.specs.Faults.{faults_of_both, faults_specifiers, faults_declarator, faults_type, object_faults, parameter_faults, is_own}
+use Rattle.c_declared.specs.Faults.{faults_of_both, faults_specifiers, faults_declarator, faults_type, object_faults, parameter_faults, is_own, tag_word}
 use Rattle.c_declared.specs.Sizes.{are_sizes, sizes_of}
 
 abbrev pub broken : Bool → MisfitKind → Option MisfitKind
@@ -44,23 +46,32 @@ abbrev pub type_rule : Faults → Judgement → Judgement
 type_rule f j =
     unless (broken f.unknown UnknownName) (unless (broken f.repeated DeclaredTwice) (unless (broken f.passed LeftOut) (unless (broken f.incomplete KindMismatch) j)))
 
--- a member (6.7.2.1): its name is declared once in its structure
-abbrev pub member_rule : Environment → Members → Specifiers → DeclaredType → DeclaratorTree → Judgement
-member_rule env earlier ws t d =
-    declared_rule (faults_of_both (object_faults env (behind_declarator env d) ws (is_own d) (declared env t d)) (faults_declarator env t d))
+-- a member (6.7.2.1), whose specifiers have this tag: its name is declared once in its structure
+abbrev pub member_rule : Environment → Members → Option Specifier → DeclaredType → DeclaratorTree → Judgement
+member_rule env earlier word t d =
+    declared_rule (faults_of_both (object_faults env (behind_declarator env d) word (is_own d) (declared env t d)) (faults_declarator env t d))
     (is_some (e.member earlier (declarator_name d))) (are_sizes env (sizes_of d)) (not (declared env t d).is_open) (declared env t d).kind
 
 -- a parameter with a name (6.7.6.3), behind its specifiers
 abbrev pub parameter_rule : Environment → Environment → Specifiers → DeclaredType → DeclaratorTree → Judgement
 parameter_rule outside env ws t d =
     declared_rule
-    (faults_of_both (faults_specifiers outside ws) (faults_of_both (parameter_faults env (behind_declarator env d) ws (is_own d) (adjusted (declared env t d))) (faults_declarator env t d)))
+    (faults_of_both (faults_specifiers outside ws) (faults_of_both (parameter_faults env (behind_declarator env d) (tag_word ws) (is_own d) (adjusted (declared env t d))) (faults_declarator env t d)))
     (is_declared_here (behind_declarator env d) (declarator_name d)) (are_sizes env (sizes_of d)) (not (adjusted (declared env t d)).is_open) (adjusted (declared env t d)).kind
 
 -- an enumerator (6.7.2.2): a constant's name is none of the implementation's, and its value is one of int
 abbrev pub enumerator_rule : Environment → Name → Option ℤ → Judgement
 enumerator_rule env n v =
     unless (broken (is_declared_here env n || is_reserved env n) DeclaredTwice) (unless (broken (is_none v) NotConstant) (fits plain_int))
+
+-- what an expression stands for that is a name
+abbrev pub expression_binding : Environment → Expression → Option Binding
+expression_binding env (name n) = bound_to env n
+expression_binding env _ = None
+
+-- an expression where the names stand for this, and the nodes below it
+abbrev pub expression_node : Environment → Expression → Judgement → Said → Said
+expression_node env x j below = named_node (expression_binding env x) j below
 
 abbrev mutual
   -- ---- an expression itself, by its rule from its parts
@@ -95,36 +106,36 @@ abbrev mutual
 
   -- ---- the nodes below an expression
   pub below : Rows → Environment → Expression → Said
-  below rows env (comma x y) = both (node (operand rows env x).judged (below rows env x)) (node (operand rows (behind_expression env x) y).judged (below rows (behind_expression env x) y))
-  below rows env (assign o x y) = both (node (operand rows env x).judged (below rows env x)) (node (operand rows (behind_expression env x) y).judged (below rows (behind_expression env x) y))
+  below rows env (comma x y) = both (expression_node env x (operand rows env x).judged (below rows env x)) (expression_node (behind_expression env x) y (operand rows (behind_expression env x) y).judged (below rows (behind_expression env x) y))
+  below rows env (assign o x y) = both (expression_node env x (operand rows env x).judged (below rows env x)) (expression_node (behind_expression env x) y (operand rows (behind_expression env x) y).judged (below rows (behind_expression env x) y))
   below rows env (choose w x y) =
-      both (both (node (operand rows env w).judged (below rows env w)) (node (operand rows (behind_expression env w) x).judged (below rows (behind_expression env w) x)))
-      (node (operand rows (behind_expression (behind_expression env w) x) y).judged (below rows (behind_expression (behind_expression env w) x) y))
-  below rows env (binary o x y) = both (node (operand rows env x).judged (below rows env x)) (node (operand rows (behind_expression env x) y).judged (below rows (behind_expression env x) y))
-  below rows env (cast t x) = both (said_type rows env t) (node (operand rows (behind_type env t) x).judged (below rows (behind_type env t) x))
-  below rows env (unary o x) = node (operand rows env x).judged (below rows env x)
-  below rows env (before o x) = node (operand rows env x).judged (below rows env x)
-  below rows env (size_of x) = node (operand rows env x).judged (below rows env x)
+      both (both (expression_node env w (operand rows env w).judged (below rows env w)) (expression_node (behind_expression env w) x (operand rows (behind_expression env w) x).judged (below rows (behind_expression env w) x)))
+      (expression_node (behind_expression (behind_expression env w) x) y (operand rows (behind_expression (behind_expression env w) x) y).judged (below rows (behind_expression (behind_expression env w) x) y))
+  below rows env (binary o x y) = both (expression_node env x (operand rows env x).judged (below rows env x)) (expression_node (behind_expression env x) y (operand rows (behind_expression env x) y).judged (below rows (behind_expression env x) y))
+  below rows env (cast t x) = both (said_type rows env t) (expression_node (behind_type env t) x (operand rows (behind_type env t) x).judged (below rows (behind_type env t) x))
+  below rows env (unary o x) = expression_node env x (operand rows env x).judged (below rows env x)
+  below rows env (before o x) = expression_node env x (operand rows env x).judged (below rows env x)
+  below rows env (size_of x) = expression_node env x (operand rows env x).judged (below rows env x)
   below rows env (size_of_type t) = said_type rows env t
-  below rows env (index x y) = both (node (operand rows env x).judged (below rows env x)) (node (operand rows (behind_expression env x) y).judged (below rows (behind_expression env x) y))
-  below rows env (call f xs) = both (node (as_callee (behind_expression env f) f (operand rows env f)).judged (below rows env f)) (said_expressions rows (behind_expression env f) xs)
-  below rows env (dot x m) = node (operand rows env x).judged (below rows env x)
-  below rows env (arrow x m) = node (operand rows env x).judged (below rows env x)
-  below rows env (after o x) = node (operand rows env x).judged (below rows env x)
+  below rows env (index x y) = both (expression_node env x (operand rows env x).judged (below rows env x)) (expression_node (behind_expression env x) y (operand rows (behind_expression env x) y).judged (below rows (behind_expression env x) y))
+  below rows env (call f xs) = both (expression_node env f (as_callee (behind_expression env f) f (operand rows env f)).judged (below rows env f)) (said_expressions rows (behind_expression env f) xs)
+  below rows env (dot x m) = expression_node env x (operand rows env x).judged (below rows env x)
+  below rows env (arrow x m) = expression_node env x (operand rows env x).judged (below rows env x)
+  below rows env (after o x) = expression_node env x (operand rows env x).judged (below rows env x)
   below rows env (name n) = nothing
   below rows env (integer z) = nothing
   below rows env (character c) = nothing
   below rows env (text ts) = nothing
-  below rows env (paren x) = node (operand rows env x).judged (below rows env x)
+  below rows env (paren x) = expression_node env x (operand rows env x).judged (below rows env x)
 
   pub said_expressions : Rows → Environment → Expressions → Said
   said_expressions rows env no_expressions = nothing
-  said_expressions rows env (expressions x xs) = both (node (operand rows env x).judged (below rows env x)) (said_expressions rows (behind_expression env x) xs)
+  said_expressions rows env (expressions x xs) = both (expression_node env x (operand rows env x).judged (below rows env x)) (said_expressions rows (behind_expression env x) xs)
 
   pub said_sizes : Rows → Environment → Sizes → Said
   said_sizes rows env no_sizes = nothing
   said_sizes rows env (open_size xs) = said_sizes rows env xs
-  said_sizes rows env (size x xs) = both (node (operand rows env x).judged (below rows env x)) (said_sizes rows (behind_expression env x) xs)
+  said_sizes rows env (size x xs) = both (expression_node env x (operand rows env x).judged (below rows env x)) (said_sizes rows (behind_expression env x) xs)
 
   -- ---- types and declarators
   pub said_type : Rows → Environment → TypeTree → Said
@@ -142,24 +153,25 @@ abbrev mutual
   pub said_members : Rows → Environment → Members → MemberTrees → Said
   said_members rows env earlier no_members = nothing
   said_members rows env earlier (member ws ds ms) =
-      both (both (said_specifiers rows env ws) (said_declarators rows (behind_specifiers env ws) earlier ws (specified env ws) ds))
+      both (both (said_specifiers rows env ws) (said_declarators rows (behind_specifiers env ws) earlier (tag_word ws) (specified env ws) ds))
       (said_members rows (behind_declarators (behind_specifiers env ws) ds) (declared_members (behind_specifiers env ws) earlier (specified env ws) ds) ms)
 
-  pub said_declarators : Rows → Environment → Members → Specifiers → DeclaredType → Declarators → Said
-  said_declarators rows env earlier ws t no_declarators = nothing
-  said_declarators rows env earlier ws t (declarators d ds) =
-      both (node (once (said_declarator rows env d) (member_rule env earlier ws t d)) (said_declarator rows env d))
-      (said_declarators rows (behind_declarator env d) (with_member earlier (declarator_name d) (declared env t d).kind) ws t ds)
+  pub said_declarators : Rows → Environment → Members → Option Specifier → DeclaredType → Declarators → Said
+  said_declarators rows env earlier word t no_declarators = nothing
+  said_declarators rows env earlier word t (declarators d ds) =
+      both (node (once (said_declarator rows env d) (member_rule env earlier word t d)) (said_declarator rows env d))
+      (said_declarators rows (behind_declarator env d) (with_member earlier (declarator_name d) (declared env t d).kind) word t ds)
 
   pub said_enumerators : Rows → Environment → Option ℤ → Enumerators → Said
   said_enumerators rows env previous no_enumerators = nothing
   said_enumerators rows env previous (enumerator n es) =
-      both (node (enumerator_rule env n (constants.enumerator (value env) None previous)) nothing)
+      both (valued_node (constants.enumerator (value env) None previous) (enumerator_rule env n (constants.enumerator (value env) None previous)) nothing)
       (said_enumerators rows (with_entity env n (e.enumerator (constants.enumerator (value env) None previous))) (constants.enumerator (value env) None previous) es)
   said_enumerators rows env previous (enumerator_with n x es) =
       both
-      (node (once (node (operand rows env x).judged (below rows env x)) (enumerator_rule (behind_expression env x) n (constants.enumerator (value env) (Some x) previous)))
-      (node (operand rows env x).judged (below rows env x)))
+      (valued_node (constants.enumerator (value env) (Some x) previous)
+      (once (expression_node env x (operand rows env x).judged (below rows env x)) (enumerator_rule (behind_expression env x) n (constants.enumerator (value env) (Some x) previous)))
+      (expression_node env x (operand rows env x).judged (below rows env x)))
       (said_enumerators rows (with_entity (behind_expression env x) n (e.enumerator (constants.enumerator (value env) (Some x) previous))) (constants.enumerator (value env) (Some x) previous) es)
 
   -- the sizes and the parameters of a declarator
@@ -172,15 +184,16 @@ abbrev mutual
   pub said_parameters : Rows → Bool → Environment → Parameters → Said
   said_parameters rows has_body env no_parameters = nothing
   said_parameters rows has_body env (parameters ws f ps) =
-      both (said_form rows env ws (said_specifiers rows env ws) f)
+      both (said_form rows has_body env ws (said_specifiers rows env ws) f)
       (said_parameters rows has_body (behind_form has_body (behind_specifiers env ws) (specified env ws) f) ps)
 
-  -- a parameter with a name is a node that holds its specifiers
-  pub said_form : Rows → Environment → Specifiers → Said → ParameterForm → Said
-  said_form rows env ws inside (named_form d) =
-      node (once (both inside (said_declarator rows (behind_specifiers env ws) d)) (parameter_rule env (behind_specifiers env ws) ws (specified env ws) d))
+  -- a parameter with a name is a node that holds its specifiers; its name stands for a variable where the function has a body
+  pub said_form : Rows → Bool → Environment → Specifiers → Said → ParameterForm → Said
+  said_form rows has_body env ws inside (named_form d) =
+      named_node (bound_to (behind_form has_body (behind_specifiers env ws) (specified env ws) (named_form d)) (declarator_name d))
+      (once (both inside (said_declarator rows (behind_specifiers env ws) d)) (parameter_rule env (behind_specifiers env ws) ws (specified env ws) d))
       (both inside (said_declarator rows (behind_specifiers env ws) d))
-  said_form rows env ws inside (bare_form b) = both inside (said_bare rows (behind_specifiers env ws) b)
+  said_form rows has_body env ws inside (bare_form b) = both inside (said_bare rows (behind_specifiers env ws) b)
 
   pub said_bare : Rows → Environment → BareTree → Said
   said_bare rows env (bare_stars ss) = nothing
@@ -188,4 +201,4 @@ abbrev mutual
 
 -- an expression and the nodes below it
 abbrev pub said : Rows → Environment → Expression → Said
-said rows env x = node (operand rows env x).judged (below rows env x)
+said rows env x = expression_node env x (operand rows env x).judged (below rows env x)

@@ -169,20 +169,29 @@ fn structure_unknown(env: &Environment, known: Option<Option<u32>>) -> bool
     }
 }
 
-/// Whether the specifiers have a tag that isn't declared (C11 6.7.2.3p3).
-pub fn tag_unknown(env: &Environment, specs: &[SpecWord]) -> bool
-    ensures { result ≡ spec.tag_unknown (seen_environment env.now) (specifiers_of (map view_specifier specs.now)) }
+/// The tag among the specifiers that stands without members or enumerators.
+pub fn tag_word(specs: &[SpecWord]) -> Option<&SpecWord>
+    ensures { option_map (λ w. view_specifier w.now) result ≡ spec.tag_word (specifiers_of (map view_specifier specs.now)) }
 {
     for word in specs {
         match word {
-            SpecWord::StructTag(name) => {
-                return structure_unknown(env, env.tag(name.as_bytes()));
-            }
-            SpecWord::EnumTag(name) => return env.tag(name.as_bytes()).is_none(),
+            SpecWord::StructTag(_) => return Some(word),
+            SpecWord::EnumTag(_) => return Some(word),
             _ => {}
         }
     }
-    false
+    None
+}
+
+/// Whether specifiers with this one have a tag that isn't declared (C11 6.7.2.3p3).
+pub fn tag_unknown(env: &Environment, word: Option<&SpecWord>) -> bool
+    ensures { result ≡ spec.tag_unknown (seen_environment env.now) (option_map (λ w. view_specifier w.now) word.entry) }
+{
+    match word {
+        Some(SpecWord::StructTag(name)) => structure_unknown(env, env.tag(name.as_bytes())),
+        Some(SpecWord::EnumTag(name)) => env.tag(name.as_bytes()).is_none(),
+        _ => false,
+    }
 }
 
 fn is_completed(structure: Option<&Structure>) -> bool

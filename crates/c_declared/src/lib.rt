@@ -13,7 +13,7 @@ mod walk;
 pub use constness::Constness;
 pub use declared::{Declared, ParametersPart, Part, SizesPart};
 pub use faults::{
-    Faults, both, is_own, names_enumeration, object_faults, result_faults, tag_unknown,
+    Faults, both, is_own, names_enumeration, object_faults, result_faults, tag_unknown, tag_word,
 };
 pub use judgements::Judgements;
 pub use operands::Walked;

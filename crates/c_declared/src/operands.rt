@@ -13,6 +13,8 @@ ghost use Rattle.c_rules.specs.Names as names;
 ghost use Rattle.c_rules.specs.Operators as operators;
 ghost use Rattle.c_rules.specs.Values as values;
 ghost use Rattle.c_rules.specs.Seen.{seen, seen_operand, seen_operands};
+ghost use Rattle.c_bindings.specs.Told.{bound};
+ghost use Rattle.c_declared.specs.Nodes as spec_nodes;
 ghost use Rattle.c_declared.specs.Operands as spec;
 ghost use Rattle.c_declared.specs.Constness as spec_constness;
 ghost use Rattle.c_declared.specs.Seen.{shown};
@@ -21,6 +23,7 @@ ghost use Rattle.c_judgements.specs.Parts.{closed};
 use crate::constness::Constness;
 use crate::denoted::{library_of, named_operand};
 use crate::judgements::Judgements;
+use c_bindings::{Binding, bound_to};
 use c_environment::{Environment, Structure};
 use c_kinds::CType;
 use c_rules::{
@@ -359,15 +362,26 @@ pub(crate) fn walked_paren(alloc: Global, x: &Walked) -> Result<Boxed<Walked>, A
     )
 }
 
-/// The node of an expression that has been walked ends. Err where there is not enough memory.
+/// What an expression stands for that is a name.
+pub(crate) fn expression_binding(env: &Environment, e: &Expr) -> Option<Binding>
+    ensures { result ≡ spec_nodes.expression_binding (seen_environment env.now) (view_expression e.now) }
+{
+    match e {
+        Expr::Name(name) => bound_to(env, name.as_bytes()),
+        _ => None,
+    }
+}
+
+/// The node of an expression that has been walked ends, which stands for this. Err where there is not enough memory.
 pub(crate) fn ended(
     walked: Boxed<Walked>,
+    binding: Option<Binding>,
     out: &mut Judgements,
 ) -> Result<Boxed<Walked>, AllocError>
     requires { 1 < length (shown out.old) }
     ensures same { IfOk result (λ w. w ≡ walked) }
-    ensures all { OnOk result (shown out.new ≡ closed (seen_operand walked.operand).judged (shown out.old)) }
+    ensures all { OnOk result (shown out.new ≡ closed (bound (seen_operand walked.operand).judged binding) (shown out.old)) }
 {
-    out.end(&walked.get().operand.verdict)?;
+    out.end(&walked.get().operand.verdict, binding)?;
     Ok(walked)
 }

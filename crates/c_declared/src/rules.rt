@@ -5,6 +5,8 @@ ghost use Rattle.c_judgements.specs.Parts.{closed};
 ghost use Rattle.c_kinds.specs.View.{view};
 ghost use Rattle.c_tree.specs.DeclaredNames.{declarator_name};
 ghost use Rattle.c_tree.specs.View.{view_declarator};
+ghost use Rattle.c_bindings.specs.Binding as binding;
+ghost use Rattle.c_bindings.specs.Told.{bound, of_value};
 ghost use Rattle.c_environment.specs.Behind.{with_parameter};
 ghost use Rattle.c_environment.specs.Entity.{enumerator, with_member};
 ghost use Rattle.c_environment.specs.Environment.{with_entity};
@@ -26,6 +28,7 @@ use crate::faults::{Faults, both, object_faults, parameter_faults};
 use crate::judgements::Judgements;
 use crate::operands::{Walked, with_form};
 use base_core::Lexeme;
+use c_bindings::{Told, bound_to};
 use c_environment::{DeclaredType, Entity, Environment, Members};
 use c_kinds::CType;
 use c_rules::{Form, MisfitKind, Verdict, cast, size_of_type};
@@ -191,7 +194,7 @@ fn parameter_rule(
     Ok(once(both(outside.settled, by.settled), own))
 }
 
-/// A parameter with a name ends, and its name is in scope: what it gives. Err where there is not enough memory.
+/// A parameter with a name ends, and its name is in scope, which it stands for: what it gives. Err where there is not enough memory.
 pub(crate) fn end_parameter<'a>(
     alloc: Global,
     env: &mut Environment<'a>,
@@ -206,14 +209,15 @@ pub(crate) fn end_parameter<'a>(
     ensures settled { IfOk result (λ p. p.settled ≡ is_settled (parameter_judgement (seen_environment env.old) unknown outside.faults (view_declarator d.now) (outside.settled && by.settled) by.faults by.are_sizes (seen_type by.of))) }
     ensures faults { IfOk result (λ p. p.faults ≡ no_faults) }
     ensures of { IfOk result (λ p. seen_type p.of ≡ adjusted (seen_type by.of)) }
-    ensures all { OnOk result (shown out.new ≡ closed (parameter_judgement (seen_environment env.old) unknown outside.faults (view_declarator d.now) (outside.settled && by.settled) by.faults by.are_sizes (seen_type by.of)) (shown out.old)) }
+    ensures all { OnOk result (shown out.new ≡ closed (bound (parameter_judgement (seen_environment env.old) unknown outside.faults (view_declarator d.now) (outside.settled && by.settled) by.faults by.are_sizes (seen_type by.of)) (binding.bound_to (with_parameter has_body (seen_environment env.old) (declarator_name (view_declarator d.now)) (adjusted (seen_type by.of))) (declarator_name (view_declarator d.now)))) (shown out.old)) }
     ensures behind { OnOk result (seen_environment env.new ≡ with_parameter has_body (seen_environment env.old) (declarator_name (view_declarator d.now)) (adjusted (seen_type by.of))) }
 {
     let of = by.get().of.share()?.adjusted()?;
     let own = parameter_rule(env, unknown, outside, d, by.get(), &of)?;
     let settled = own.is_settled();
-    out.close(own);
-    env.with_parameter(has_body, declared_name(d).as_bytes(), of.share()?)?;
+    let name = declared_name(d).as_bytes();
+    env.with_parameter(has_body, name, of.share()?)?;
+    out.close_told(Told::bound(own, bound_to(env, name)));
     Ok(Boxed::new(
         alloc,
         Declared {
@@ -223,6 +227,16 @@ pub(crate) fn end_parameter<'a>(
             of,
         },
     )?)
+}
+
+/// The same value.
+fn wide(value: Option<i32>) -> Option<i64>
+    ensures { result ≡ value }
+{
+    match value {
+        Some(value) => Some(i64::from(value)),
+        None => None,
+    }
 }
 
 /// An enumerator ends, and its name is in scope: whether its node is settled, where those below it are or not. Err where there is not enough
@@ -236,12 +250,12 @@ pub(crate) fn end_enumerator<'a>(
 ) -> Result<bool, AllocError>
     requires { 1 < length (shown out.old) }
     ensures settled { IfOk result (λ s. s ≡ is_settled (if below then nodes.enumerator_rule (seen_environment env.old) name.now value else waits)) }
-    ensures all { OnOk result (shown out.new ≡ closed (if below then nodes.enumerator_rule (seen_environment env.old) name.now value else waits) (shown out.old)) }
+    ensures all { OnOk result (shown out.new ≡ closed (of_value (if below then nodes.enumerator_rule (seen_environment env.old) name.now value else waits) value) (shown out.old)) }
     ensures behind { OnOk result (seen_environment env.new ≡ with_entity (seen_environment env.old) name.now (enumerator value)) }
 {
     let own = once(below, enumerator_rule(env, name, value));
     let settled = own.is_settled();
-    out.close(own);
+    out.close_told(Told::valued(own, wide(value)));
     env.with_entity(name, Entity::Enumerator(value))?;
     Ok(settled)
 }

@@ -4,6 +4,8 @@
 
 ghost use Rattle.std.specs.Prelude.{◌≡◌, ◌<◌, ◌&&◌, ◌∷◌, Some, None, false, map, option_map, option_copied, length, if◌then◌else◌, IfOk, OnOk};
 ghost use Rattle.c_judgements.specs.Parts.{added, closed};
+ghost use Rattle.c_bindings.specs.Binding.{bound_to};
+ghost use Rattle.c_bindings.specs.Told.{bound};
 ghost use Rattle.c_kinds.specs.View.{view};
 ghost use Rattle.c_tree.specs.DeclaredNames.{declarator_name};
 ghost use Rattle.c_tree.specs.View as tree;
@@ -34,11 +36,11 @@ use crate::declared::{
 };
 use crate::faults::{
     Faults, both, enumeration_faults, enumeration_tag_faults, is_own, is_own_bare,
-    structure_faults, structure_tag_faults, tag_unknown,
+    structure_faults, structure_tag_faults, tag_unknown, tag_word,
 };
 use crate::judgements::Judgements;
 use crate::operands::{
-    Walked, as_callee, ended, row_of, walked_arrow, walked_assign, walked_binary, walked_call,
+    Walked, as_callee, ended, expression_binding, row_of, walked_arrow, walked_assign, walked_binary, walked_call,
     walked_character, walked_choose, walked_comma, walked_dot, walked_index, walked_integer,
     walked_name, walked_paren, walked_size_of, walked_step, walked_text, walked_unary,
 };
@@ -70,8 +72,9 @@ pub fn walk_operand<'a>(
     ensures all { OnOk result (shown out.new ≡ added (nodes.said table.now (seen_environment env.old) (view_expression e.now)).all (shown out.old)) }
     ensures behind { OnOk result (seen_environment env.new ≡ behind.behind_expression (seen_environment env.old) (view_expression e.now)) }
 {
+    let binding = expression_binding(env, e);
     let x = walk_expression(alloc, table, env, e, out)?;
-    ended(x, out)
+    ended(x, binding, out)
 }
 
 /// An expression as an operand, and what is below its node, which stays open.
@@ -170,12 +173,13 @@ fn walk_callee<'a>(
 ) -> Result<Boxed<Walked>, AllocError>
     requires { 0 < length (shown out.old) }
     ensures operand { IfOk result (λ w. seen_operand w.operand ≡ spec.as_callee (behind.behind_expression (seen_environment env.old) (view_expression e.now)) (view_expression e.now) (nodes.operand table.now (seen_environment env.old) (view_expression e.now))) }
-    ensures all { OnOk result (shown out.new ≡ added ((spec.as_callee (behind.behind_expression (seen_environment env.old) (view_expression e.now)) (view_expression e.now) (nodes.operand table.now (seen_environment env.old) (view_expression e.now))).judged ∷ (nodes.below table.now (seen_environment env.old) (view_expression e.now)).all) (shown out.old)) }
+    ensures all { OnOk result (shown out.new ≡ added (nodes.expression_node (seen_environment env.old) (view_expression e.now) (spec.as_callee (behind.behind_expression (seen_environment env.old) (view_expression e.now)) (view_expression e.now) (nodes.operand table.now (seen_environment env.old) (view_expression e.now))).judged (nodes.below table.now (seen_environment env.old) (view_expression e.now))).all (shown out.old)) }
     ensures behind { OnOk result (seen_environment env.new ≡ behind.behind_expression (seen_environment env.old) (view_expression e.now)) }
 {
+    let binding = expression_binding(env, e);
     let f = walk_expression(alloc, table, env, e, out)?;
     let f = as_callee(alloc, env, e, f)?;
-    ended(f, out)
+    ended(f, binding, out)
 }
 
 /// The right operand of a comma.
@@ -548,9 +552,10 @@ fn walk_member<'a>(
 {
     let specs = one.specs.as_slice();
     let of = Boxed::new(alloc, env.specified(specs)?)?;
+    let word = tag_word(specs);
     let part = walk_specifiers(alloc, table, env, specs, out)?;
     let names = one.names.as_slice();
-    let named = walk_declarators(alloc, table, env, names, specs, of.get(), earlier, out)?;
+    let named = walk_declarators(alloc, table, env, names, word, of.get(), earlier, out)?;
     Ok(Part {
         settled: both(part.settled, named),
         faults: part.faults,
@@ -564,20 +569,20 @@ fn walk_declarators<'a>(
     table: &Table,
     env: &mut Environment<'a>,
     all: &'a [Declarator],
-    specs: &[SpecWord],
+    word: Option<&SpecWord>,
     of: &DeclaredType,
     earlier: &mut Members<'a>,
     out: &mut Judgements,
 ) -> Result<bool, AllocError>
     requires { 0 < length (shown out.old) }
-    ensures settled { IfOk result (λ w. w ≡ (nodes.said_declarators table.now (seen_environment env.old) (seen_members earlier.old) (specifiers_of (map view_specifier specs.now)) (seen_type of.now) (declarators_of (map view_declarator all.now))).settled) }
+    ensures settled { IfOk result (λ w. w ≡ (nodes.said_declarators table.now (seen_environment env.old) (seen_members earlier.old) (option_map (λ w. view_specifier w.now) word.entry) (seen_type of.now) (declarators_of (map view_declarator all.now))).settled) }
     ensures members { OnOk result (seen_members earlier.new ≡ behind.declared_members (seen_environment env.old) (seen_members earlier.old) (seen_type of.now) (declarators_of (map view_declarator all.now))) }
-    ensures all { OnOk result (shown out.new ≡ added (nodes.said_declarators table.now (seen_environment env.old) (seen_members earlier.old) (specifiers_of (map view_specifier specs.now)) (seen_type of.now) (declarators_of (map view_declarator all.now))).all (shown out.old)) }
+    ensures all { OnOk result (shown out.new ≡ added (nodes.said_declarators table.now (seen_environment env.old) (seen_members earlier.old) (option_map (λ w. view_specifier w.now) word.entry) (seen_type of.now) (declarators_of (map view_declarator all.now))).all (shown out.old)) }
     ensures behind { OnOk result (seen_environment env.new ≡ behind.behind_declarators (seen_environment env.old) (declarators_of (map view_declarator all.now))) }
 {
     let mut settled = true;
     for d in all {
-        let one = walk_named_member(alloc, table, env, d, specs, of, earlier, out)?;
+        let one = walk_named_member(alloc, table, env, d, word, of, earlier, out)?;
         settled = both(settled, one);
     }
     Ok(settled)
@@ -590,19 +595,19 @@ fn walk_named_member<'a>(
     table: &Table,
     env: &mut Environment<'a>,
     d: &'a Declarator,
-    specs: &[SpecWord],
+    word: Option<&SpecWord>,
     of: &DeclaredType,
     earlier: &mut Members<'a>,
     out: &mut Judgements,
 ) -> Result<bool, AllocError>
     requires { 0 < length (shown out.old) }
-    ensures settled { IfOk result (λ w. w ≡ (parts.said_named_member table.now (seen_environment env.old) (seen_members earlier.old) (specifiers_of (map view_specifier specs.now)) (seen_type of.now) (view_declarator d.now)).settled) }
+    ensures settled { IfOk result (λ w. w ≡ (parts.said_named_member table.now (seen_environment env.old) (seen_members earlier.old) (option_map (λ w. view_specifier w.now) word.entry) (seen_type of.now) (view_declarator d.now)).settled) }
     ensures members { OnOk result (seen_members earlier.new ≡ with_member (seen_members earlier.old) (declarator_name (view_declarator d.now)) (behind.declared (seen_environment env.old) (seen_type of.now) (view_declarator d.now)).kind) }
-    ensures all { OnOk result (shown out.new ≡ added (parts.said_named_member table.now (seen_environment env.old) (seen_members earlier.old) (specifiers_of (map view_specifier specs.now)) (seen_type of.now) (view_declarator d.now)).all (shown out.old)) }
+    ensures all { OnOk result (shown out.new ≡ added (parts.said_named_member table.now (seen_environment env.old) (seen_members earlier.old) (option_map (λ w. view_specifier w.now) word.entry) (seen_type of.now) (view_declarator d.now)).all (shown out.old)) }
     ensures behind { OnOk result (seen_environment env.new ≡ behind.behind_declarator (seen_environment env.old) (view_declarator d.now)) }
 {
     out.open()?;
-    let unknown = both(is_own(d), tag_unknown(env, specs));
+    let unknown = both(is_own(d), tag_unknown(env, word));
     let by = walk_declarator(alloc, table, env, d, of, out)?;
     end_member(env, unknown, earlier, d, by, out)
 }
@@ -775,23 +780,24 @@ fn walk_parameter<'a>(
     out: &mut Judgements,
 ) -> Result<Boxed<Declared>, AllocError>
     requires { 0 < length (shown out.old) }
-    ensures settled { IfOk result (λ w. w.settled ≡ (parts.said_parameter table.now (seen_environment env.old) (view_parameter p.now)).settled) }
+    ensures settled { IfOk result (λ w. w.settled ≡ (parts.said_parameter table.now has_body (seen_environment env.old) (view_parameter p.now)).settled) }
     ensures faults { IfOk result (λ w. w.faults ≡ faults.faults_form (seen_environment env.old) (view_parameter p.now).0 (view_parameter p.now).1) }
     ensures of { IfOk result (λ w. seen_type w.of ≡ parts.parameter_type (seen_environment env.old) (view_parameter p.now)) }
-    ensures all { OnOk result (shown out.new ≡ added (parts.said_parameter table.now (seen_environment env.old) (view_parameter p.now)).all (shown out.old)) }
+    ensures all { OnOk result (shown out.new ≡ added (parts.said_parameter table.now has_body (seen_environment env.old) (view_parameter p.now)).all (shown out.old)) }
     ensures behind { OnOk result (seen_environment env.new ≡ parts.behind_parameter has_body (seen_environment env.old) (view_parameter p.now)) }
 {
     let specs = p.specs.as_slice();
     let of = Boxed::new(alloc, env.specified(specs)?)?;
+    let word = tag_word(specs);
     match &p.form {
         ParamForm::Named(d) => {
             out.open()?;
             let part = walk_specifiers(alloc, table, env, specs, out)?;
-            walk_named_parameter(alloc, table, env, d, specs, of.get(), part, has_body, out)
+            walk_named_parameter(alloc, table, env, d, word, of.get(), part, has_body, out)
         }
         ParamForm::Bare(b) => {
             let part = walk_specifiers(alloc, table, env, specs, out)?;
-            walk_bare_parameter(alloc, table, env, b, specs, of.get(), part, out)
+            walk_bare_parameter(alloc, table, env, b, word, of.get(), part, out)
         }
     }
 }
@@ -804,20 +810,20 @@ fn walk_named_parameter<'a>(
     table: &Table,
     env: &mut Environment<'a>,
     d: &'a Declarator,
-    specs: &[SpecWord],
+    word: Option<&SpecWord>,
     of: &DeclaredType,
     part: Part,
     has_body: bool,
     out: &mut Judgements,
 ) -> Result<Boxed<Declared>, AllocError>
     requires { 1 < length (shown out.old) }
-    ensures settled { IfOk result (λ w. w.settled ≡ is_settled (parts.parameter_judged table.now (seen_environment env.old) part.settled part.faults (specifiers_of (map view_specifier specs.now)) (seen_type of.now) (view_declarator d.now))) }
+    ensures settled { IfOk result (λ w. w.settled ≡ is_settled (parts.parameter_judged table.now (seen_environment env.old) part.settled part.faults (option_map (λ w. view_specifier w.now) word.entry) (seen_type of.now) (view_declarator d.now))) }
     ensures faults { IfOk result (λ w. w.faults ≡ faults.no_faults) }
     ensures of { IfOk result (λ w. seen_type w.of ≡ adjusted (behind.declared (seen_environment env.old) (seen_type of.now) (view_declarator d.now))) }
-    ensures all { OnOk result (shown out.new ≡ closed (parts.parameter_judged table.now (seen_environment env.old) part.settled part.faults (specifiers_of (map view_specifier specs.now)) (seen_type of.now) (view_declarator d.now)) (added (nodes.said_declarator table.now (seen_environment env.old) (view_declarator d.now)).all (shown out.old))) }
+    ensures all { OnOk result (shown out.new ≡ closed (bound (parts.parameter_judged table.now (seen_environment env.old) part.settled part.faults (option_map (λ w. view_specifier w.now) word.entry) (seen_type of.now) (view_declarator d.now)) (bound_to (behind.with_parameter has_body (behind.behind_declarator (seen_environment env.old) (view_declarator d.now)) (declarator_name (view_declarator d.now)) (adjusted (behind.declared (seen_environment env.old) (seen_type of.now) (view_declarator d.now)))) (declarator_name (view_declarator d.now)))) (added (nodes.said_declarator table.now (seen_environment env.old) (view_declarator d.now)).all (shown out.old))) }
     ensures behind { OnOk result (seen_environment env.new ≡ behind.with_parameter has_body (behind.behind_declarator (seen_environment env.old) (view_declarator d.now)) (declarator_name (view_declarator d.now)) (adjusted (behind.declared (seen_environment env.old) (seen_type of.now) (view_declarator d.now)))) }
 {
-    let unknown = both(is_own(d), tag_unknown(env, specs));
+    let unknown = both(is_own(d), tag_unknown(env, word));
     let by = walk_declarator(alloc, table, env, d, of, out)?;
     end_parameter(alloc, env, has_body, unknown, part, d, by, out)
 }
@@ -829,19 +835,19 @@ fn walk_bare_parameter<'a>(
     table: &Table,
     env: &mut Environment<'a>,
     b: &'a Bare,
-    specs: &[SpecWord],
+    word: Option<&SpecWord>,
     of: &DeclaredType,
     part: Part,
     out: &mut Judgements,
 ) -> Result<Boxed<Declared>, AllocError>
     requires { 0 < length (shown out.old) }
     ensures settled { IfOk result (λ w. w.settled ≡ (part.settled && (nodes.said_bare table.now (seen_environment env.old) (view_bare b.now)).settled)) }
-    ensures faults { IfOk result (λ w. w.faults ≡ parts.bare_faults (seen_environment env.old) part.faults (specifiers_of (map view_specifier specs.now)) (seen_type of.now) (view_bare b.now)) }
+    ensures faults { IfOk result (λ w. w.faults ≡ parts.bare_faults (seen_environment env.old) part.faults (option_map (λ w. view_specifier w.now) word.entry) (seen_type of.now) (view_bare b.now)) }
     ensures of { IfOk result (λ w. seen_type w.of ≡ adjusted (behind.bare (seen_environment env.old) (seen_type of.now) (view_bare b.now))) }
     ensures all { OnOk result (shown out.new ≡ added (nodes.said_bare table.now (seen_environment env.old) (view_bare b.now)).all (shown out.old)) }
     ensures behind { OnOk result (seen_environment env.new ≡ behind.behind_bare (seen_environment env.old) (view_bare b.now)) }
 {
-    let unknown = both(is_own_bare(b), tag_unknown(env, specs));
+    let unknown = both(is_own_bare(b), tag_unknown(env, word));
     let by = walk_bare(alloc, table, env, b, of, out)?;
     bare_parameter(alloc, env, unknown, part, by)
 }

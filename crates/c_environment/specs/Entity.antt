@@ -40,6 +40,12 @@ pub data Entity : Type 0 where
   library : ℕ → Entity
   built_in : BuiltIn → Entity
 
+-- the variables among them, in order
+abbrev pub variables_of : List Entity → List Variable
+variables_of [] = []
+variables_of (variable v ∷ es) = v ∷ variables_of es
+variables_of (_ ∷ es) = variables_of es
+
 -- The members of a structure, a name space of its own (6.2.3): each name with its place, and the kinds in order.
 pub record Members : Type 0 where
   pub names : Scope

@@ -1,11 +1,11 @@
-ghost use Rattle.std.specs.Prelude.{◌≡◌, IfOk};
+ghost use Rattle.std.specs.Prelude.{◌≡◌, map, IfOk};
 ghost use Rattle.c_kinds.specs.View.{view};
-ghost use Rattle.c_environment.specs.Entity.{simple};
-ghost use Rattle.c_environment.specs.Seen.{seen_type};
+ghost use Rattle.c_environment.specs.Entity.{simple, variables_of};
+ghost use Rattle.c_environment.specs.Seen.{seen_type, seen_variable, seen_entity};
 
 use crate::built_in::KnownBuiltIn;
 use c_kinds::CType;
-use std::alloc::AllocError;
+use std::alloc::{AllocError, Global};
 
 /// A type as a declaration gives it.
 #[derive(Drop)]
@@ -68,6 +68,21 @@ pub struct Variable {
     pub linked: bool,
 }
 
+impl Variable {
+    /// The same variable once more, in one step. Err where there is not enough memory.
+    pub fn share(&self) -> Result<Variable, AllocError>
+        ensures { IfOk result (λ v. seen_variable v ≡ seen_variable self.now) }
+    {
+        Ok(Variable {
+            number: self.number,
+            of: self.of.share()?,
+            owner: self.owner,
+            lasting: self.lasting,
+            linked: self.linked,
+        })
+    }
+}
+
 /// What an ordinary name stands for (C11 6.2.3).
 #[derive(Drop)]
 pub enum Entity {
@@ -85,4 +100,23 @@ pub enum Entity {
     Library(u32),
     /// A built-in name.
     BuiltIn(KnownBuiltIn),
+}
+
+/// The variables among these things, in order. Err where there is not enough memory.
+pub(crate) fn variables_among(alloc: Global, all: &[Entity]) -> Result<Vec<Variable>, AllocError>
+    ensures { IfOk result (λ vs. map seen_variable vs.items ≡ variables_of (map seen_entity all.now)) }
+{
+    let mut variables = Vec::new(alloc);
+    for one in all {
+        match one {
+            Entity::Variable(variable) => variables.push(variable.share()?)?,
+            Entity::Parameter(_)
+            | Entity::Function(_)
+            | Entity::Enumerator(_)
+            | Entity::TypeName(_)
+            | Entity::Library(_)
+            | Entity::BuiltIn(_) => {}
+        }
+    }
+    Ok(variables)
 }

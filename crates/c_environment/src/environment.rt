@@ -1,10 +1,11 @@
 //! What the names at a place of the text stand for, and how blocks begin and end.
 
-ghost use Rattle.std.specs.Prelude.{◌≡◌, option_map, OnOk};
+ghost use Rattle.std.specs.Prelude.{◌≡◌, map, option_map, IfOk, OnOk};
+ghost use Rattle.c_environment.specs.Entity.{variables_of};
 ghost use Rattle.c_environment.specs.Environment as plain;
-ghost use Rattle.c_environment.specs.Seen.{seen_entity, seen_structure, seen_environment};
+ghost use Rattle.c_environment.specs.Seen.{seen_entity, seen_variable, seen_structure, seen_environment};
 
-use crate::entity::Entity;
+use crate::entity::{Entity, Variable, variables_among};
 use crate::members::Structure;
 use c_constants::Names;
 use c_scopes::Scope;
@@ -80,6 +81,13 @@ impl<'a> Environment<'a> {
             Some(number) => self.entities.get(number as usize),
             None => None,
         }
+    }
+
+    /// All variables declared so far, in order of their numbers. Err where there is not enough memory.
+    pub fn all_variables(&self) -> Result<Vec<Variable>, AllocError>
+        ensures { IfOk result (λ vs. map seen_variable vs.items ≡ variables_of (seen_environment self.now).entities) }
+    {
+        variables_among(self.alloc, self.entities.as_slice())
     }
 
     /// Whether the innermost block has declared the name.

@@ -3,13 +3,14 @@ use Rattle.std.proofs.Common.{◌≡◌, ℕ, List, [], ◌∷◌, ◌++◌, len
 use Rattle.c_kinds.specs.Kind.{Kind}
 use Rattle.c_tree.specs.declared.tree.Storage.{Storage}
 use Rattle.c_tree.specs.Nodes.{Node, nodes_expression, nodes_specifiers, nodes_declarator, nodes_parameters, nodes_init, nodes_initializers, nodes_optional_init, nodes_named, nodes_names, nodes_declaration, nodes_optional, nodes_start, nodes_statement, nodes_statements, nodes_function, nodes_item, nodes_items}
-use Rattle.c_tree.specs.Tree.{Expression, Specifiers, Initializer, single, listed, Initializers, no_initializers, initializers, NamedTree, DeclarationTree, ForStartTree, start_declaration, start_expression, StatementTree, block, declaration, expression_statement, if_statement, if_else_statement, while_statement, do_statement, for_statement, switch_statement, case_label, default_label, named_label, break_statement, continue_statement, return_statement, goto_statement, Statements, no_statements, statements, FunctionTree, ItemTree, function_item, declaration_item}
+use Rattle.c_tree.specs.Tree.{Expression, Specifier, Initializer, single, listed, Initializers, no_initializers, initializers, NamedTree, DeclarationTree, ForStartTree, start_declaration, start_expression, StatementTree, block, declaration, expression_statement, if_statement, if_else_statement, while_statement, do_statement, for_statement, switch_statement, case_label, default_label, named_label, break_statement, continue_statement, return_statement, goto_statement, Statements, no_statements, statements, FunctionTree, ItemTree, function_item, declaration_item}
 use Rattle.c_environment.specs.Entity.{DeclaredType}
 use Rattle.c_environment.specs.Environment.{Environment, entered, left}
 use Rattle.c_environment.specs.Types.{specified}
 use Rattle.c_environment.specs.Behind.{behind_expression, behind_specifiers, declared}
 use Rattle.c_environment.specs.Scopes.{behind_initializer, behind_named, behind_optional, behind_start, behind_statement, behind_item, in_function, with_parameters}
 use Rattle.c_rules.specs.Judgement.{kind}
+use Rattle.c_declared.specs.Faults.{tag_word}
 use Rattle.c_declared.specs.Said.{Said, both}
 use Rattle.c_declared.specs.Operands.{Rows}
 use Rattle.c_declared.specs.Nodes.{operand, said, said_specifiers, said_declarator, said_parameters}
@@ -50,28 +51,28 @@ optional_initializer_aligned : (rows : Rows) (env : Environment) (k : Kind) (i :
 optional_initializer_aligned rows env k None = refl
 optional_initializer_aligned rows env k (Some i) = initializer_aligned rows env (Some k) i
 
-pub named_aligned : (rows : Rows) (env : Environment) (storage : Storage) (ws : Specifiers) (t : DeclaredType) (n : NamedTree) →
-    length (said_named rows env storage ws t n).all ≡ length (nodes_named n)
-named_aligned rows env storage ws t n =
+pub named_aligned : (rows : Rows) (env : Environment) (storage : Storage) (word : Option Specifier) (t : DeclaredType) (n : NamedTree) →
+    length (said_named rows env storage word t n).all ≡ length (nodes_named n)
+named_aligned rows env storage word t n =
     let inner = in_initializer env storage t n in
     let k = (declared env t n.declarator).kind in
     ap suc (two (said_declarator rows env n.declarator) (said_optional_initializer rows inner k n.init) (nodes_declarator n.declarator) (nodes_optional_init n.init)
     (declarator_aligned rows env n.declarator) (optional_initializer_aligned rows inner k n.init))
 
-pub names_aligned : (rows : Rows) (env : Environment) (storage : Storage) (ws : Specifiers) (t : DeclaredType) (ns : List NamedTree) →
-    length (said_names rows env storage ws t ns).all ≡ length (nodes_names ns)
-names_aligned rows env storage ws t [] = refl
-names_aligned rows env storage ws t (n ∷ ns) =
+pub names_aligned : (rows : Rows) (env : Environment) (storage : Storage) (word : Option Specifier) (t : DeclaredType) (ns : List NamedTree) →
+    length (said_names rows env storage word t ns).all ≡ length (nodes_names ns)
+names_aligned rows env storage word t [] = refl
+names_aligned rows env storage word t (n ∷ ns) =
     let further = behind_named env storage t n in
-    two (said_named rows env storage ws t n) (said_names rows further storage ws t ns) (nodes_named n) (nodes_names ns)
-    (named_aligned rows env storage ws t n) (names_aligned rows further storage ws t ns)
+    two (said_named rows env storage word t n) (said_names rows further storage word t ns) (nodes_named n) (nodes_names ns)
+    (named_aligned rows env storage word t n) (names_aligned rows further storage word t ns)
 
 pub declaration_aligned : (rows : Rows) (env : Environment) (d : DeclarationTree) → length (said_declaration rows env d).all ≡ length (nodes_declaration d)
 declaration_aligned rows env d =
     let inner = behind_specifiers env d.specs in
     let t = specified env d.specs in
-    ap suc (two (said_specifiers rows env d.specs) (said_names rows inner d.storage d.specs t d.names) (nodes_specifiers d.specs) (nodes_names d.names)
-    (specifiers_aligned rows env d.specs) (names_aligned rows inner d.storage d.specs t d.names))
+    ap suc (two (said_specifiers rows env d.specs) (said_names rows inner d.storage (tag_word d.specs) t d.names) (nodes_specifiers d.specs) (nodes_names d.names)
+    (specifiers_aligned rows env d.specs) (names_aligned rows inner d.storage (tag_word d.specs) t d.names))
 
 -- ---- statements
 

@@ -1,7 +1,8 @@
--- The first judgement that breaks a rule stands in the list.
+-- The first node that breaks a rule stands in the list.
 use Rattle.std.proofs.Common.{◌≡◌, ◌<◌, ℕ, List, [], ◌∷◌, length, suc, Option, Some, None, arith, subst, sym}
 use Rattle.c_rules.specs.declared.misfit.MisfitKind.{MisfitKind}
-use Rattle.c_rules.specs.Judgement.{Judgement, fits, fails, waits, silent, first_misfit, one_further}
+use Rattle.c_rules.specs.Judgement.{misfit}
+use Rattle.c_bindings.specs.Told.{Told, here_or, first_misfit, one_further}
 
 abbrev Below : ℕ → Option (ℕ × MisfitKind) → Type 0
 Below n None = Unit {0}
@@ -11,12 +12,13 @@ further : (n : ℕ) (o : Option (ℕ × MisfitKind)) → Below n o → Below (su
 further n None h = tt
 further n (Some p) h = omega (arith, h)
 
-is_below : (js : List Judgement) → Below (length js) (first_misfit js)
-is_below [] = tt
-is_below (fails m ∷ js) = omega arith
-is_below (fits k ∷ js) = further (length js) (first_misfit js) (is_below js)
-is_below (waits ∷ js) = further (length js) (first_misfit js) (is_below js)
-is_below (silent ∷ js) = further (length js) (first_misfit js) (is_below js)
+here : (n : ℕ) (m : Option MisfitKind) (o : Option (ℕ × MisfitKind)) → Below n o → Below (suc n) (here_or m o)
+here n (Some m) o h = omega arith
+here n None o h = further n o h
 
-pub below : (js : List Judgement) (p : ℕ × MisfitKind) → Some p ≡ first_misfit js → p.0 < length js
-below js p e = subst (Below (length js)) (sym e) (is_below js)
+is_below : (ts : List Told) → Below (length ts) (first_misfit ts)
+is_below [] = tt
+is_below (t ∷ ts) = here (length ts) (misfit t.judged) (first_misfit ts) (is_below ts)
+
+pub below : (ts : List Told) (p : ℕ × MisfitKind) → Some p ≡ first_misfit ts → p.0 < length ts
+below ts p e = subst (Below (length ts)) (sym e) (is_below ts)

@@ -3,7 +3,7 @@ use Rattle.std.proofs.Common.{◌≡◌, List, [], ◌++◌, length, Bool, true,
 use Rattle.c_rules.specs.declared.misfit.MisfitKind.{MisfitKind}
 use Rattle.c_tree.specs.Tree.{Name}
 use Rattle.c_judgements.specs.Parts.{added}
-use Rattle.c_rules.specs.Judgement.{Judgement}
+use Rattle.c_bindings.specs.Told.{Told}
 use Rattle.c_declared.proofs.Joins as joins
 use Rattle.c_judged.specs.Initializers.{or_misfit}
 
@@ -29,13 +29,13 @@ and_assoc a b c = joins.and_assoc a b c
 pub and_true : (a : Bool) → (a && true) ≡ a
 and_true a = joins.and_true a
 
-pub added_none : (ps : List (List Judgement)) → added [] ps ≡ ps
+pub added_none : (ps : List (List Told)) → added [] ps ≡ ps
 added_none ps = joins.added_none ps
 
-pub added_twice : (xs ys : List Judgement) (ps : List (List Judgement)) → added ys (added xs ps) ≡ added (xs ++ ys) ps
+pub added_twice : (xs ys : List Told) (ps : List (List Told)) → added ys (added xs ps) ≡ added (xs ++ ys) ps
 added_twice xs ys ps = joins.added_twice xs ys ps
 
-pub length_added : (xs : List Judgement) (ps : List (List Judgement)) → length (added xs ps) ≡ length ps
+pub length_added : (xs : List Told) (ps : List (List Told)) → length (added xs ps) ≡ length ps
 length_added xs ps = joins.length_added xs ps
 
 pub labels_none : (ns : List Name) → ns ++ [] ≡ ns

@@ -2,7 +2,7 @@
 use Rattle.std.proofs.Common.{◌≡◌, Bool, ◌&&◌, ◌||◌, not, Option, is_some, if◌then◌else◌, ap, ◌∙◌}
 use Rattle.c_kinds.specs.Kind.{Kind}
 use Rattle.c_tree.specs.declared.tree.Storage.{Storage}
-use Rattle.c_tree.specs.Tree.{Specifiers, NamedTree}
+use Rattle.c_tree.specs.Tree.{Specifier, NamedTree}
 use Rattle.c_tree.specs.DeclaredNames.{declarator_name}
 use Rattle.c_environment.specs.Entity.{DeclaredType}
 use Rattle.c_environment.specs.Environment.{Environment, at_file_scope}
@@ -45,31 +45,31 @@ at_same : {A : Type 0} (g : Bool → Environment → Bool → DeclaredType → F
 at_same g o o' e e' u u' t t' f f' a1 a2 a3 a4 a5 =
     ap (λ v. g v e u t f) a1 ∙ ap (λ v. g o' v u t f) a2 ∙ ap (λ v. g o' e' v t f) a3 ∙ ap (λ v. g o' e' u' v f) a4 ∙ ap (λ v. g o' e' u' t' v) a5
 
-pub closed_is : (rows : Rows) (env at inner : Environment) (storage : Storage) (ws : Specifiers) (t of : DeclaredType) (n : NamedTree) (outside unknown settled sizes : Bool) (faults : Faults) (p : NamePart) (i : InitPart) →
-    outside ≡ at_file_scope env → unknown ≡ (is_own n.declarator && tag_unknown env ws) →
+pub closed_is : (rows : Rows) (env at inner : Environment) (storage : Storage) (word : Option Specifier) (t of : DeclaredType) (n : NamedTree) (outside unknown settled sizes : Bool) (faults : Faults) (p : NamePart) (i : InitPart) →
+    outside ≡ at_file_scope env → unknown ≡ (is_own n.declarator && tag_unknown env word) →
     settled ≡ (said_declarator rows env n.declarator).settled → sizes ≡ constant_sizes env (sizes_of n.declarator) → of ≡ declared env t n.declarator →
     faults ≡ faults_declarator env t n.declarator → at ≡ behind_declarator env n.declarator →
     p.first ≡ declared_misfit at (linked_at outside storage of.is_function) of (declarator_name n.declarator) (is_some n.init) (faults_behind at storage unknown of n.declarator faults) →
     p.is_complete ≡ is_complete_by storage (is_some n.init) (faults_behind at storage unknown of n.declarator faults) of →
     inner ≡ in_initializer env storage t n →
     i.settled ≡ (said_optional rows inner of.kind n.init).settled → i.fixed ≡ is_static_if_any rows inner n.init → i.misfit ≡ mismatched rows inner of.kind n.init →
-    name_closed outside storage settled sizes of.kind p i ≡ once (below_named rows env storage t n) (named_rule rows env (in_initializer env storage t n) storage ws t n)
-closed_is rows env at inner storage ws t of n outside unknown settled sizes faults p i a b c d e f g h j k l m q =
+    name_closed outside storage settled sizes of.kind p i ≡ once (below_named rows env storage t n) (named_rule rows env (in_initializer env storage t n) storage word t n)
+closed_is rows env at inner storage word t of n outside unknown settled sizes faults p i a b c d e f g h j k l m q =
     closed_same storage outside (at_file_scope env) settled (said_declarator rows env n.declarator).settled sizes (constant_sizes env (sizes_of n.declarator)) of.kind (declared env t n.declarator).kind
     p.first
     (declared_misfit (behind_declarator env n.declarator) (linked_at (at_file_scope env) storage (declared env t n.declarator).is_function) (declared env t n.declarator) (declarator_name n.declarator) (is_some n.init)
-    (faults_behind (behind_declarator env n.declarator) storage (is_own n.declarator && tag_unknown env ws) (declared env t n.declarator) n.declarator (faults_declarator env t n.declarator)))
+    (faults_behind (behind_declarator env n.declarator) storage (is_own n.declarator && tag_unknown env word) (declared env t n.declarator) n.declarator (faults_declarator env t n.declarator)))
     p.is_complete
     (is_complete_by storage (is_some n.init)
-    (faults_behind (behind_declarator env n.declarator) storage (is_own n.declarator && tag_unknown env ws) (declared env t n.declarator) n.declarator (faults_declarator env t n.declarator)) (declared env t n.declarator))
+    (faults_behind (behind_declarator env n.declarator) storage (is_own n.declarator && tag_unknown env word) (declared env t n.declarator) n.declarator (faults_declarator env t n.declarator)) (declared env t n.declarator))
     i.settled (said_optional rows (in_initializer env storage t n) (declared env t n.declarator).kind n.init).settled
     i.fixed (is_static_if_any rows (in_initializer env storage t n) n.init)
     i.misfit (mismatched rows (in_initializer env storage t n) (declared env t n.declarator).kind n.init)
     a c d (ap (λ v. v.kind) e)
     (h ∙ at_same (λ o x u y w. declared_misfit x (linked_at o storage y.is_function) y (declarator_name n.declarator) (is_some n.init) (faults_behind x storage u y n.declarator w))
-    outside (at_file_scope env) at (behind_declarator env n.declarator) unknown (is_own n.declarator && tag_unknown env ws) of (declared env t n.declarator) faults (faults_declarator env t n.declarator) a g b e f)
+    outside (at_file_scope env) at (behind_declarator env n.declarator) unknown (is_own n.declarator && tag_unknown env word) of (declared env t n.declarator) faults (faults_declarator env t n.declarator) a g b e f)
     (j ∙ at_same (λ o x u y w. is_complete_by storage (is_some n.init) (faults_behind x storage u y n.declarator w) y)
-    outside (at_file_scope env) at (behind_declarator env n.declarator) unknown (is_own n.declarator && tag_unknown env ws) of (declared env t n.declarator) faults (faults_declarator env t n.declarator) a g b e f)
+    outside (at_file_scope env) at (behind_declarator env n.declarator) unknown (is_own n.declarator && tag_unknown env word) of (declared env t n.declarator) faults (faults_declarator env t n.declarator) a g b e f)
     (l ∙ ap (λ v. (said_optional rows v of.kind n.init).settled) k ∙ ap (λ v. (said_optional rows (in_initializer env storage t n) v.kind n.init).settled) e)
     (m ∙ ap (λ v. is_static_if_any rows v n.init) k)
     (q ∙ ap (λ v. mismatched rows v of.kind n.init) k ∙ ap (λ v. mismatched rows (in_initializer env storage t n) v.kind n.init) e)

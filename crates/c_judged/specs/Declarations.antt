@@ -5,7 +5,7 @@ use Rattle.c_kinds.specs.Kind.{Kind}
 use Rattle.c_kinds.specs.Matching.{agrees}
 use Rattle.c_tree.specs.declared.tree.Storage.{Storage}
 use Rattle.c_tree.specs.declared.tree.Storage.TheVariants as st
-use Rattle.c_tree.specs.Tree.{Name, Specifiers, no_specifiers, specifiers, struct_tag, DeclaratorTree, function, Initializer, NamedTree, DeclarationTree}
+use Rattle.c_tree.specs.Tree.{Name, Specifiers, no_specifiers, specifiers, Specifier, struct_tag, DeclaratorTree, function, Initializer, NamedTree, DeclarationTree}
 use Rattle.c_tree.specs.DeclaredNames.{declarator_name}
 use Rattle.c_environment.specs.Entity as e
 use Rattle.c_environment.specs.Entity.{DeclaredType, Entity, variable}
@@ -16,10 +16,11 @@ use Rattle.c_environment.specs.Scopes.{is_extern, is_typedef, has_linkage, with_
 use Rattle.c_rules.specs.declared.misfit.MisfitKind.{MisfitKind}
 use Rattle.c_rules.specs.declared.misfit.MisfitKind.TheVariants.{UnknownName, DeclaredTwice, NotConstant, LeftOut, KindMismatch}
 use Rattle.c_rules.specs.Judgement.{Judgement, fits, silent, unless}
-use Rattle.c_declared.specs.Said.{Said, nothing, both, node, formless, once}
+use Rattle.c_bindings.specs.Binding.{bound_to}
+use Rattle.c_declared.specs.Said.{Said, nothing, both, named_node, formless, once}
 use Rattle.c_declared.specs.Operands.{Rows}
 use Rattle.c_declared.specs.declared.faults.Faults.{Faults}
-use Rattle.c_declared.specs.Faults.{no_faults, faults_of_both, faults_specifiers, faults_declarator, object_faults, is_own, names_enumeration, repeated_if}
+use Rattle.c_declared.specs.Faults.{no_faults, faults_of_both, faults_specifiers, faults_declarator, object_faults, is_own, tag_word, names_enumeration, repeated_if}
 use Rattle.c_declared.specs.Sizes.{are_sizes, sizes_of}
 use Rattle.c_declared.specs.Nodes.{said_specifiers, said_declarator, broken}
 use Rattle.c_judged.specs.Initializers.{or_misfit, part_misfit, is_static_initializer, said_initializer}
@@ -57,7 +58,7 @@ differs_from k (Some k') = not (agrees k' k)
 abbrev pub differs : Environment → Name → Kind → Bool
 differs env n k = differs_from k (option_and_then kind_of (linked_entity env n))
 
--- ---- a declared name
+-- ---- a declared name, of specifiers with this tag
 
 -- An object's array has a size, unless it is initialised, which gives it one (6.7.9p22), or declared with `extern`; a type's name may be one of
 -- an array without a size.
@@ -76,9 +77,9 @@ is_function_form _ = false
 abbrev pub is_object : Storage → DeclaratorTree → Bool
 is_object storage d = not (is_typedef storage) && not (is_function_form d)
 
-abbrev pub named_faults : Environment → Storage → Specifiers → DeclaredType → DeclaratorTree → Faults
-named_faults env storage ws t d =
-    faults_of_both (if is_object storage d then object_faults env (behind_declarator env d) ws (is_own d) (declared env t d) else no_faults) (faults_declarator env t d)
+abbrev pub named_faults : Environment → Storage → Option Specifier → DeclaredType → DeclaratorTree → Faults
+named_faults env storage word t d =
+    faults_of_both (if is_object storage d then object_faults env (behind_declarator env d) word (is_own d) (declared env t d) else no_faults) (faults_declarator env t d)
 
 -- it is initialised as an object of static storage duration, by constants
 abbrev pub is_static : Storage → Bool
@@ -116,14 +117,14 @@ is_complete_by storage initialised f t = not f.incomplete && (not t.is_open || m
 abbrev pub linked_by : Environment → Storage → DeclaredType → DeclaratorTree → Bool
 linked_by env storage t d = has_linkage env storage (declared env t d).is_function
 
-abbrev pub named_rule : Rows → Environment → Environment → Storage → Specifiers → DeclaredType → NamedTree → Judgement
-named_rule rows env inner storage ws t n =
+abbrev pub named_rule : Rows → Environment → Environment → Storage → Option Specifier → DeclaredType → NamedTree → Judgement
+named_rule rows env inner storage word t n =
     name_rule
     (declared_misfit (behind_declarator env n.declarator) (linked_by env storage t n.declarator) (declared env t n.declarator) (declarator_name n.declarator) (is_some n.init)
-    (named_faults env storage ws t n.declarator))
+    (named_faults env storage word t n.declarator))
     (are_sizes env (sizes_of n.declarator) && (not (is_lasting (at_file_scope env) storage) || is_static_if_any rows inner n.init))
     (mismatched rows inner (declared env t n.declarator).kind n.init)
-    (is_complete_by storage (is_some n.init) (named_faults env storage ws t n.declarator) (declared env t n.declarator))
+    (is_complete_by storage (is_some n.init) (named_faults env storage word t n.declarator) (declared env t n.declarator))
     (declared env t n.declarator).kind
 
 abbrev pub said_optional : Rows → Environment → Kind → Option Initializer → Said
@@ -140,13 +141,14 @@ abbrev pub below_named : Rows → Environment → Storage → DeclaredType → N
 below_named rows env storage t n =
     both (said_declarator rows env n.declarator) (said_optional rows (in_initializer env storage t n) (declared env t n.declarator).kind n.init)
 
-abbrev pub said_named : Rows → Environment → Storage → Specifiers → DeclaredType → NamedTree → Said
-said_named rows env storage ws t n =
-    node (once (below_named rows env storage t n) (named_rule rows env (in_initializer env storage t n) storage ws t n)) (below_named rows env storage t n)
+abbrev pub said_named : Rows → Environment → Storage → Option Specifier → DeclaredType → NamedTree → Said
+said_named rows env storage word t n =
+    named_node (bound_to (in_initializer env storage t n) (declarator_name n.declarator))
+    (once (below_named rows env storage t n) (named_rule rows env (in_initializer env storage t n) storage word t n)) (below_named rows env storage t n)
 
-abbrev pub said_names : Rows → Environment → Storage → Specifiers → DeclaredType → List NamedTree → Said
-said_names rows env storage ws t [] = nothing
-said_names rows env storage ws t (n ∷ ns) = both (said_named rows env storage ws t n) (said_names rows (behind_named env storage t n) storage ws t ns)
+abbrev pub said_names : Rows → Environment → Storage → Option Specifier → DeclaredType → List NamedTree → Said
+said_names rows env storage word t [] = nothing
+said_names rows env storage word t (n ∷ ns) = both (said_named rows env storage word t n) (said_names rows (behind_named env storage t n) storage word t ns)
 
 -- ---- a declaration: its tags are declared once
 
@@ -162,7 +164,7 @@ abbrev pub declaration_rule : Faults → Judgement
 declaration_rule f = unless (broken f.repeated DeclaredTwice) silent
 
 abbrev pub said_list : Rows → Environment → Storage → Specifiers → List NamedTree → Said
-said_list rows env storage ws ns = both (said_specifiers rows env ws) (said_names rows (behind_specifiers env ws) storage ws (specified env ws) ns)
+said_list rows env storage ws ns = both (said_specifiers rows env ws) (said_names rows (behind_specifiers env ws) storage (tag_word ws) (specified env ws) ns)
 
 abbrev pub below_declaration : Rows → Environment → DeclarationTree → Said
 below_declaration rows env d = said_list rows env d.storage d.specs d.names

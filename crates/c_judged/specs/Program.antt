@@ -3,16 +3,18 @@ use Rattle.std.specs.Prelude.{ℕ, List, [], ◌∷◌, Option, Some, None, Bool
 use Rattle.std.specs.Option.{option_and_then}
 use Rattle.c_kinds.specs.Kind.{Kind}
 use Rattle.c_tree.specs.Tree.{Name, StatementTree, block, FunctionTree, ItemTree, function_item, declaration_item}
-use Rattle.c_environment.specs.Entity.{DeclaredType}
+use Rattle.c_environment.specs.Entity.{DeclaredType, Variable, variables_of}
 use Rattle.c_environment.specs.Environment.{Environment, linked_entity, is_initialised, function_number}
 use Rattle.c_environment.specs.Start.{start}
 use Rattle.c_environment.specs.Types.{specified, pointed, function_type}
 use Rattle.c_environment.specs.Behind.{behind_specifiers, behind_parameters, parameter_kinds}
 use Rattle.c_environment.specs.Scopes.{behind_item, behind_items, in_function, with_parameters}
 use Rattle.c_rules.specs.declared.misfit.MisfitKind.{MisfitKind}
-use Rattle.c_rules.specs.Judgement.{Judgement, silent, waits, first_misfit, one_further}
+use Rattle.c_rules.specs.Judgement.{Judgement, silent, waits}
 use Rattle.c_rules.specs.Declarations.{main_misfit}
-use Rattle.c_declared.specs.Said.{Said, nothing, both, node, once}
+use Rattle.c_bindings.specs.Binding.{function_binding}
+use Rattle.c_bindings.specs.Told.{Told, bound, first_misfit, one_further}
+use Rattle.c_declared.specs.Said.{Said, nothing, both, node, node_told, once}
 use Rattle.c_declared.specs.Operands.{Rows}
 use Rattle.c_declared.specs.declared.faults.Faults.{Faults}
 use Rattle.c_declared.specs.Faults.{faults_of_both, faults_specifiers, faults_parameters, result_faults}
@@ -75,7 +77,7 @@ in_body env f = with_parameters (in_function env f) (specified env f.specs) f
 
 abbrev pub said_function : Rows → Environment → FunctionTree → Said
 said_function rows env f =
-    node (once (said_head rows env f) (function_rule env f))
+    node_told (bound (once (said_head rows env f) (function_rule env f)) (function_binding env f.name))
     (both (said_head rows env f) (said_body rows (body_of env f) (in_body env f) f.body))
 
 -- ---- items and programs
@@ -98,9 +100,17 @@ or_at_program (Some p) o = Some p
 or_at_program None (Some m) = Some (0, m)
 or_at_program None None = None
 
-abbrev pub misfit_of : List Judgement → Environment → Option (ℕ × MisfitKind)
+abbrev pub misfit_of : List Told → Environment → Option (ℕ × MisfitKind)
 misfit_of all env = or_at_program (one_further (first_misfit all)) (main_misfit (main_kind env))
+
+-- What is told of the nodes of a program behind the first, which is the program itself.
+abbrev pub program_told : List Name → Rows → List ItemTree → List Told
+program_told names rows items = (said_items rows (start names items) items).all
+
+-- The variables of a program, in order of their numbers.
+abbrev pub program_variables : List Name → List ItemTree → List Variable
+program_variables names items = variables_of (behind_items (start names items) items).entities
 
 -- The first node that breaks a rule, by its number in preorder, and which rule: that of main is asked once no other is broken.
 abbrev pub program_misfit : List Name → Rows → List ItemTree → Option (ℕ × MisfitKind)
-program_misfit names rows items = misfit_of (said_items rows (start names items) items).all (behind_items (start names items) items)
+program_misfit names rows items = misfit_of (program_told names rows items) (behind_items (start names items) items)

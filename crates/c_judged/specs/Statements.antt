@@ -14,7 +14,7 @@ use Rattle.c_rules.specs.declared.misfit.MisfitKind.TheVariants.{UnknownName, De
 use Rattle.c_rules.specs.Judgement.{Judgement, Operand, silent, unless, kind, is_settled}
 use Rattle.c_rules.specs.Types.{type_of}
 use Rattle.c_rules.specs.Statements.{evaluated, condition, switched, return_nothing, returned}
-use Rattle.c_declared.specs.Said.{Said, nothing, both, formless, once}
+use Rattle.c_declared.specs.Said.{Said, nothing, both, formless, formless_valued, once}
 use Rattle.c_declared.specs.Operands.{Rows}
 use Rattle.c_declared.specs.Nodes.{operand, said, broken}
 use Rattle.c_judged.specs.Declarations.{said_declaration}
@@ -140,7 +140,7 @@ abbrev pub said_return : Rows → Body → Environment → Option Expression →
 said_return rows f env x = formless (return_by f.result (operand_if_any rows env x)) (said_optional rows env x)
 
 abbrev pub said_case : Rows → Environment → Cases → Expression → Said
-said_case rows env cs x = formless (once (said rows env x) (case_rule cs (value_in env cs.of x))) (said rows env x)
+said_case rows env cs x = formless_valued (value_in env cs.of x) (once (said rows env x) (case_rule cs (value_in env cs.of x))) (said rows env x)
 
 -- ---- statements, behind the cases before them
 abbrev mutual

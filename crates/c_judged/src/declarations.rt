@@ -2,6 +2,7 @@
 
 ghost use Rattle.std.specs.Prelude.{◌≡◌, ◌<◌, ◌&&◌, length, map, option_map, is_some, IfOk, OnOk};
 ghost use Rattle.c_judgements.specs.Parts.{added, closed};
+ghost use Rattle.c_bindings.specs.Told.{bound};
 ghost use Rattle.c_kinds.specs.View.{view};
 ghost use Rattle.c_tree.specs.DeclaredNames.{declarator_name};
 ghost use Rattle.c_tree.specs.View.{view_declarator, view_specifier, specifiers_of};
@@ -16,9 +17,10 @@ ghost use Rattle.c_judged.specs.Declarations as spec;
 ghost use Rattle.c_judged.specs.Parts as parts;
 
 use crate::initializers::{InitPart, or_misfit, walk_init};
+use c_bindings::{Binding, Told, bound_to};
 use c_declared::{
     Declared, Faults, Judgements, Part, both, broken, declared_name, is_own, names_enumeration,
-    object_faults, once, tag_unknown, walk_declarator, walk_specifiers,
+    object_faults, once, tag_unknown, tag_word, walk_declarator, walk_specifiers,
 };
 use c_environment::{DeclaredType, Entity, Environment, tag_alone};
 use c_kinds::CType;
@@ -272,18 +274,19 @@ fn walk_optional<'a>(
     }
 }
 
-/// A declared name ends: whether its node is settled. Err where there is not enough memory.
+/// A declared name ends, which stands for this: whether its node is settled. Err where there is not enough memory.
 fn end_name(
     outside: bool,
     storage: Storage,
     by: &Declared,
     name: NamePart,
     init: InitPart,
+    binding: Option<Binding>,
     out: &mut Judgements,
 ) -> Result<bool, AllocError>
     requires { 1 < length (shown out.old) }
     ensures settled { IfOk result (λ s. s ≡ is_settled (parts.name_closed outside storage by.now.settled by.now.are_sizes (seen_type by.now.of).kind name init)) }
-    ensures all { OnOk result (shown out.new ≡ closed (parts.name_closed outside storage by.now.settled by.now.are_sizes (seen_type by.now.of).kind name init) (shown out.old)) }
+    ensures all { OnOk result (shown out.new ≡ closed (bound (parts.name_closed outside storage by.now.settled by.now.are_sizes (seen_type by.now.of).kind name init) binding) (shown out.old)) }
 {
     let constant = !is_lasting(outside, storage) || init.fixed;
     let are_constant = both(by.are_sizes, constant);
@@ -296,11 +299,11 @@ fn end_name(
     )?;
     let own = once(both(by.settled, init.settled), own);
     let settled = own.is_settled();
-    out.close(own);
+    out.close_told(Told::bound(own, binding));
     Ok(settled)
 }
 
-/// A declared name with its initialiser, of these specifiers, which give this type: whether its node is settled. Err where there is not
+/// A declared name with its initialiser, of specifiers with this tag, which give this type: whether its node is settled. Err where there is not
 /// enough memory.
 fn walk_named<'a>(
     alloc: Global,
@@ -308,24 +311,25 @@ fn walk_named<'a>(
     env: &mut Environment<'a>,
     n: &'a Named,
     storage: Storage,
-    specs: &[SpecWord],
+    word: Option<&SpecWord>,
     of: &DeclaredType,
     out: &mut Judgements,
 ) -> Result<bool, AllocError>
     requires { 0 < length (shown out.old) }
-    ensures settled { IfOk result (λ s. s ≡ (spec.said_named table.now (seen_environment env.old) storage (specifiers_of (map view_specifier specs.now)) (seen_type of.now) (view_named n.now)).settled) }
-    ensures all { OnOk result (shown out.new ≡ added (spec.said_named table.now (seen_environment env.old) storage (specifiers_of (map view_specifier specs.now)) (seen_type of.now) (view_named n.now)).all (shown out.old)) }
+    ensures settled { IfOk result (λ s. s ≡ (spec.said_named table.now (seen_environment env.old) storage (option_map (λ w. view_specifier w.now) word.entry) (seen_type of.now) (view_named n.now)).settled) }
+    ensures all { OnOk result (shown out.new ≡ added (spec.said_named table.now (seen_environment env.old) storage (option_map (λ w. view_specifier w.now) word.entry) (seen_type of.now) (view_named n.now)).all (shown out.old)) }
     ensures behind { OnOk result (seen_environment env.new ≡ scopes.behind_named (seen_environment env.old) storage (seen_type of.now) (view_named n.now)) }
 {
     let d = &n.declarator;
-    let unknown = both(is_own(d), tag_unknown(env, specs));
+    let unknown = both(is_own(d), tag_unknown(env, word));
     let outside = env.at_file_scope();
     out.open()?;
     let by = walk_declarator(alloc, table, env, d, of, out)?;
     let name = enter_name(env, outside, storage, unknown, n, by.get())?;
+    let binding = bound_to(env, declared_name(d).as_bytes());
     let kind = &by.get().of.kind;
     let init = walk_optional(alloc, table, env, &n.init, kind, out)?;
-    end_name(outside, storage, by.get(), name, init, out)
+    end_name(outside, storage, by.get(), name, init, binding, out)
 }
 
 /// Declared names, one after another: whether their nodes are settled. Err where there is not enough memory.
@@ -336,18 +340,18 @@ fn walk_names<'a>(
     env: &mut Environment<'a>,
     all: &'a [Named],
     storage: Storage,
-    specs: &[SpecWord],
+    word: Option<&SpecWord>,
     of: &DeclaredType,
     out: &mut Judgements,
 ) -> Result<bool, AllocError>
     requires { 0 < length (shown out.old) }
-    ensures settled { IfOk result (λ s. s ≡ (spec.said_names table.now (seen_environment env.old) storage (specifiers_of (map view_specifier specs.now)) (seen_type of.now) (map view_named all.now)).settled) }
-    ensures all { OnOk result (shown out.new ≡ added (spec.said_names table.now (seen_environment env.old) storage (specifiers_of (map view_specifier specs.now)) (seen_type of.now) (map view_named all.now)).all (shown out.old)) }
+    ensures settled { IfOk result (λ s. s ≡ (spec.said_names table.now (seen_environment env.old) storage (option_map (λ w. view_specifier w.now) word.entry) (seen_type of.now) (map view_named all.now)).settled) }
+    ensures all { OnOk result (shown out.new ≡ added (spec.said_names table.now (seen_environment env.old) storage (option_map (λ w. view_specifier w.now) word.entry) (seen_type of.now) (map view_named all.now)).all (shown out.old)) }
     ensures behind { OnOk result (seen_environment env.new ≡ scopes.behind_names (seen_environment env.old) storage (seen_type of.now) (map view_named all.now)) }
 {
     let mut settled = true;
     for n in all {
-        let one = walk_named(alloc, table, env, n, storage, specs, of, out)?;
+        let one = walk_named(alloc, table, env, n, storage, word, of, out)?;
         settled = both(settled, one);
     }
     Ok(settled)
@@ -401,8 +405,9 @@ fn walk_list<'a>(
         [] => walk_alone(alloc, table, env, specs, out),
         [_first, _more @ ..] => {
             let of = Boxed::new(alloc, env.specified(specs)?)?;
+            let word = tag_word(specs);
             let part = walk_specifiers(alloc, table, env, specs, out)?;
-            let settled = walk_names(alloc, table, env, names, storage, specs, of.get(), out)?;
+            let settled = walk_names(alloc, table, env, names, storage, word, of.get(), out)?;
             Ok(Part {
                 settled: both(part.settled, settled),
                 faults: part.faults,

@@ -19,6 +19,7 @@ use crate::cases::Cases;
 use crate::declarations::{differs, first_broken, is_taken, name_rule};
 use crate::labels::add_labels;
 use crate::statements::{Body, walk_elsewhere, walk_statements};
+use c_bindings::{Told, function_binding};
 use c_declared::{
     Faults, Judgements, ParametersPart, Part, both, once, result_faults, walk_parameters,
     walk_specifiers,
@@ -226,12 +227,13 @@ pub(crate) fn walk_function<'a>(
     ensures all { OnOk result (shown out.new ≡ added (spec.said_function table.now (seen_environment env.old) (view_function f.now)).all (shown out.old)) }
     ensures behind { OnOk result (seen_environment env.new ≡ scopes.behind_function (seen_environment env.old) (view_function f.now)) }
 {
+    let binding = function_binding(env, f.name.as_bytes());
     out.open()?;
     let head = walk_head(alloc, table, env, f, out)?;
     walk_body(alloc, table, env, &f.body, &head.body, out)?;
     env.left();
     env.within_function(None);
     let Head { own, body: _ } = head;
-    out.close(own);
+    out.close_told(Told::bound(own, binding));
     Ok(())
 }

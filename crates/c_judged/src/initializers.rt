@@ -2,6 +2,7 @@
 
 ghost use Rattle.std.specs.Prelude.{◌≡◌, ◌<◌, ◌&&◌, ◌||◌, length, map, option_map, is_none, IfOk, OnOk};
 ghost use Rattle.c_judgements.specs.Parts.{added, closed};
+ghost use Rattle.c_bindings.specs.Told.{plainly};
 ghost use Rattle.c_kinds.specs.View.{view};
 ghost use Rattle.c_tree.specs.StatementView.{view_init, view_part, initializers_of};
 ghost use Rattle.c_environment.specs.Entity as plain;
@@ -270,7 +271,7 @@ fn place_misfit(due: &Option<CType>) -> Option<MisfitKind>
 fn end_list(due: &Option<CType>, all: ListPart, out: &mut Judgements) -> InitPart
     requires { 1 < length (shown out.old) }
     ensures of { result ≡ parts.of_list (option_map view due.now) all }
-    ensures all { shown out.new ≡ closed (parts.list_closed (option_map view due.now) all) (shown out.old) }
+    ensures all { shown out.new ≡ closed (plainly (parts.list_closed (option_map view due.now) all)) (shown out.old) }
 {
     let own = list_rule(due, &all);
     out.close(once(all.settled, own));

@@ -5,18 +5,19 @@ ghost use Rattle.c_judgements.specs.Parts.{added};
 ghost use Rattle.c_kinds.specs.View.{view};
 ghost use Rattle.c_tree.specs.StatementView.{view_item};
 ghost use Rattle.c_environment.specs.Scopes as scopes;
-ghost use Rattle.c_environment.specs.Seen.{seen_environment};
-ghost use Rattle.c_environment.specs.Start.{start};
-ghost use Rattle.c_rules.specs.Seen.{seen};
+ghost use Rattle.c_environment.specs.Entity.{variables_of};
+ghost use Rattle.c_environment.specs.Seen.{seen_variable, seen_environment};
+ghost use Rattle.c_bindings.specs.Seen.{seen_told};
 ghost use Rattle.c_declared.specs.Seen.{shown};
 ghost use Rattle.c_judged.specs.Program as spec;
 
 use crate::declarations::{kind_of, walk_declaration};
 use crate::functions::walk_function;
+use c_bindings::{Told, first_misfit};
 use c_declared::Judgements;
-use c_environment::Environment;
+use c_environment::{Environment, Variable};
 use c_kinds::CType;
-use c_rules::{MisfitKind, Verdict, first_misfit, main_misfit};
+use c_rules::{MisfitKind, main_misfit};
 use c_tree::Item;
 use posix_table::Table;
 use std::alloc::{AllocError, Global};
@@ -24,10 +25,12 @@ use std::alloc::{AllocError, Global};
 /// What is said of a program.
 #[derive(Drop)]
 pub struct Judged {
-    /// What is said of its nodes, in preorder, behind the first node, which is the program itself.
-    pub all: Vec<Verdict>,
+    /// What is told of its nodes, in preorder, behind the first node, which is the program itself.
+    pub all: Vec<Told>,
     /// The first node that breaks a rule, by its number in preorder, and which rule; the program itself is node 0.
     pub misfit: Option<(usize, MisfitKind)>,
+    /// Its variables, in order of their numbers.
+    pub variables: Vec<Variable>,
 }
 
 fn walk_item<'a>(
@@ -81,8 +84,8 @@ fn main_kind<'e>(env: &'e Environment) -> Option<&'e CType>
 
 /// The first node that breaks a rule: that of main is asked once no other is broken.
 #[tactic(auto, using(crate::proofs::First::below))]
-fn misfit_of(all: &[Verdict], env: &Environment) -> Option<(usize, MisfitKind)>
-    ensures { result ≡ spec.misfit_of (map seen all.now) (seen_environment env.now) }
+fn misfit_of(all: &[Told], env: &Environment) -> Option<(usize, MisfitKind)>
+    ensures { result ≡ spec.misfit_of (map seen_told all.now) (seen_environment env.now) }
 {
     let count = all.len();
     match first_misfit(all) {
@@ -96,16 +99,36 @@ fn misfit_of(all: &[Verdict], env: &Environment) -> Option<(usize, MisfitKind)>
     }
 }
 
-/// What is said of the nodes of a program with these items, over this table of library functions: of each node one judgement, by the rules
-/// of names, declarations, expressions and statements (C11 6.5 to 6.9). Err where there is not enough memory.
+/// The same of items where the names stand for this. Err where there is not enough memory.
+fn judged_from<'a>(
+    alloc: Global,
+    table: &Table,
+    env: &mut Environment<'a>,
+    items: &'a [Item],
+) -> Result<Judged, AllocError>
+    ensures all { IfOk result (λ j. map seen_told j.all.items ≡ (spec.said_items table.now (seen_environment env.old) (map view_item items.now)).all) }
+    ensures misfit { IfOk result (λ j. j.misfit ≡ spec.misfit_of (spec.said_items table.now (seen_environment env.old) (map view_item items.now)).all (scopes.behind_items (seen_environment env.old) (map view_item items.now))) }
+    ensures variables { IfOk result (λ j. map seen_variable j.variables.items ≡ variables_of (scopes.behind_items (seen_environment env.old) (map view_item items.now)).entities) }
+{
+    let mut out = Judgements::new(alloc);
+    walk_items(alloc, table, env, items, &mut out)?;
+    let all = out.finish();
+    let misfit = misfit_of(all.as_slice(), env);
+    let variables = env.all_variables()?;
+    Ok(Judged {
+        all,
+        misfit,
+        variables,
+    })
+}
+
+/// What is said of a program with these items, over this table of library functions: of each node one judgement, by the rules of names,
+/// declarations, expressions and statements (C11 6.5 to 6.9), what its name stands for, and its value. Err where there is not enough memory.
 pub fn judge<'a>(alloc: Global, table: &'a Table, items: &'a [Item]) -> Result<Judged, AllocError>
-    ensures all { IfOk result (λ j. map seen j.all.items ≡ (spec.said_items table.now (start (map (λ row. row.name) table.now) (map view_item items.now)) (map view_item items.now)).all) }
+    ensures all { IfOk result (λ j. map seen_told j.all.items ≡ spec.program_told (map (λ row. row.name) table.now) table.now (map view_item items.now)) }
     ensures misfit { IfOk result (λ j. j.misfit ≡ spec.program_misfit (map (λ row. row.name) table.now) table.now (map view_item items.now)) }
+    ensures variables { IfOk result (λ j. map seen_variable j.variables.items ≡ spec.program_variables (map (λ row. row.name) table.now) (map view_item items.now)) }
 {
     let mut env = Environment::start(alloc, table, items)?;
-    let mut out = Judgements::new(alloc);
-    walk_items(alloc, table, &mut env, items, &mut out)?;
-    let all = out.finish();
-    let misfit = misfit_of(all.as_slice(), &env);
-    Ok(Judged { all, misfit })
+    judged_from(alloc, table, &mut env, items)
 }

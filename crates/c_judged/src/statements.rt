@@ -2,6 +2,7 @@
 
 ghost use Rattle.std.specs.Prelude.{◌≡◌, ◌<◌, ◌∷◌, [], length, map, option_map, true, Some, None, IfOk, OnOk};
 ghost use Rattle.c_judgements.specs.Parts.{added, closed};
+ghost use Rattle.c_bindings.specs.Told.{plainly};
 ghost use Rattle.c_kinds.specs.View.{view};
 ghost use Rattle.c_tree.specs.Tree as tree;
 ghost use Rattle.c_tree.specs.View.{view_expression};
@@ -21,6 +22,7 @@ ghost use Rattle.c_judged.specs.Statements as spec;
 use crate::cases::Cases;
 use crate::declarations::walk_declaration;
 use base_core::Lexeme;
+use c_bindings::Told;
 use c_declared::{Judgements, Walked, both, broken, once, walk_operand};
 use c_environment::Environment;
 use c_grammar::Names;
@@ -153,7 +155,8 @@ fn walk_case<'a>(
     cases.with_value(value)?;
     out.open()?;
     let x = walk_operand(alloc, table, env, x, out)?;
-    out.close(once(x.get().operand.verdict.is_settled(), own));
+    let own = once(x.get().operand.verdict.is_settled(), own);
+    out.close_told(Told::valued(own, value));
     Ok(())
 }
 
@@ -163,7 +166,7 @@ fn walk_label<'a>(
     name: &'a Lexeme,
     out: &mut Judgements,
 ) -> Result<(), AllocError>
-    ensures all { OnOk result (shown out.new ≡ added (spec.label_rule (seen_environment env.old) name.now ∷ []) (shown out.old)) }
+    ensures all { OnOk result (shown out.new ≡ added (plainly (spec.label_rule (seen_environment env.old) name.now) ∷ []) (shown out.old)) }
     ensures behind { OnOk result (seen_environment env.new ≡ with_label (seen_environment env.old) name.now) }
 {
     let name = name.as_bytes();
@@ -394,7 +397,7 @@ fn walk_last<'a>(
     out: &mut Judgements,
 ) -> Result<(), AllocError>
     requires { 1 < length (shown out.old) }
-    ensures all { OnOk result (shown out.new ≡ closed (seen own) (added (spec.said_statement table.now (seen_body f.now) (entered (seen_environment env.old)) spec.no_cases (view_statement r.now)).all (shown out.old))) }
+    ensures all { OnOk result (shown out.new ≡ closed (plainly (seen own)) (added (spec.said_statement table.now (seen_body f.now) (entered (seen_environment env.old)) spec.no_cases (view_statement r.now)).all (shown out.old))) }
     ensures behind { OnOk result (seen_environment env.new ≡ left (left (scopes.behind_statement (entered (seen_environment env.old)) (view_statement r.now)))) }
 {
     walk_branch(alloc, table, env, r, f, out)?;

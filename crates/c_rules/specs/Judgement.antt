@@ -1,5 +1,5 @@
 -- What is said of a node of a program, and how it follows from what is said of its parts.
-use Rattle.std.specs.Prelude.{ℕ, suc, List, [], ◌∷◌, Option, Some, None, Bool, true, false, ◌&&◌, if◌then◌else◌}
+use Rattle.std.specs.Prelude.{List, Option, Some, None, Bool, true, false, ◌&&◌, if◌then◌else◌}
 use Rattle.std.specs.List.{list_all}
 use Rattle.c_kinds.specs.Kind.{Kind}
 use Rattle.c_rules.specs.declared.misfit.MisfitKind.{MisfitKind}
@@ -68,16 +68,3 @@ by_three _ _ _ rule = waits
 abbrev pub unless : Option MisfitKind → Judgement → Judgement
 unless (Some m) j = fails m
 unless None j = j
-
--- ---- the first node that breaks a rule
-
--- one number further
-abbrev pub one_further : Option (ℕ × MisfitKind) → Option (ℕ × MisfitKind)
-one_further None = None
-one_further (Some p) = Some (suc p.0, p.1)
-
--- the first in the list that breaks a rule, by its number, and which
-abbrev pub first_misfit : List Judgement → Option (ℕ × MisfitKind)
-first_misfit [] = None
-first_misfit (fails m ∷ js) = Some (0, m)
-first_misfit (_ ∷ js) = one_further (first_misfit js)

@@ -40,4 +40,4 @@ pub use operators::{binary, choose, comma, paren, unary};
 pub use shapes::{arrow_form, index_form, name_form, unary_form};
 pub use statements::{condition, evaluated, return_nothing, returned, switched};
 pub use values::{assign, initialiser_misfit, step};
-pub use verdict::{Verdict, first_misfit};
+pub use verdict::Verdict;

@@ -1,4 +1,4 @@
-ghost use Rattle.std.specs.Prelude.{◌≡◌, IfOk, map, option_map};
+ghost use Rattle.std.specs.Prelude.{◌≡◌, IfOk, option_map};
 ghost use Rattle.c_kinds.specs.View.{view};
 ghost use Rattle.c_rules.specs.Judgement as judgement;
 ghost use Rattle.c_rules.specs.Seen.{seen};
@@ -72,18 +72,4 @@ impl Verdict {
             None => otherwise,
         }
     }
-}
-
-/// The first node that breaks a rule, by its number in the list, and which rule.
-#[tactic(auto, using(crate::proofs::Lists::further_none, crate::proofs::Lists::further_one, crate::proofs::Lists::further_here))]
-pub fn first_misfit(all: &[Verdict]) -> Option<(usize, MisfitKind)>
-    ensures { result ≡ judgement.first_misfit (map seen all.now) }
-{
-    for (k, verdict) in all.iter().enumerate() {
-        match verdict {
-            Verdict::Fails(misfit) => return Some((k, *misfit)),
-            Verdict::Fits(_) | Verdict::Waits | Verdict::Silent => {}
-        }
-    }
-    None
 }

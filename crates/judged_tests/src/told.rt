@@ -8,7 +8,7 @@ use posix_table::{Table, profile};
 use std::alloc::{AllocError, Global};
 
 /// The program of this text, if it is one.
-fn program(alloc: Global, text: &[u8]) -> Option<Program> {
+pub(crate) fn program(alloc: Global, text: &[u8]) -> Option<Program> {
     if text.len() > 1_048_576 {
         return None;
     }

@@ -202,24 +202,3 @@ fn forms_of_expressions(rt: HostRuntime) -> Result<(), Fail> {
     assert!(rt; are_named_forms());
     Ok(())
 }
-
-fn verdicts(alloc: Global) -> Result<Vec<Verdict>, AllocError> {
-    let mut all = Vec::new(alloc);
-    all.push(Verdict::Waits)?;
-    all.push(Verdict::Silent)?;
-    all.push(Verdict::Fails(MisfitKind::LeftOut))?;
-    all.push(Verdict::Fails(MisfitKind::UnknownName))?;
-    Ok(all)
-}
-
-fn told(all: &[Verdict], count: usize) -> Option<(usize, MisfitKind)> {
-    c_rules::first_misfit(all.get(..count).unwrap_or(&[]))
-}
-
-#[test]
-fn the_first_misfit_is_told(rt: HostRuntime) -> Result<(), Fail> {
-    let all = verdicts(rt.alloc())?;
-    assert_eq!(rt; told(all.as_slice(), 2), None);
-    assert_eq!(rt; told(all.as_slice(), 4), Some((2, MisfitKind::LeftOut)));
-    Ok(())
-}

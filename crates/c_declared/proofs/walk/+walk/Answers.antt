@@ -110,11 +110,11 @@ pub walk_member-returns-clause-all : goal.walk_member-returns-clause-all
 walk_member-returns-clause-all t c =
     let of : seen_type c.get.result.now ≡ specified (seen_environment c.args.env.now) (specifiers_of (map view_specifier c.as_slice-specs.result.now)) = search rules in
     steps.member_said c.args.table.now (seen_environment c.args.env.now) (seen_environment c.walk_specifiers.new.env) (seen_members c.args.earlier.now) (view_member c.args.one.now)
-    (specifiers_of (map view_specifier c.as_slice-specs.result.now)) (declarators_of (map view_declarator c.as_slice-names.result.now)) (seen_type c.get.result.now)
+    (specifiers_of (map view_specifier c.as_slice-specs.result.now)) (option_map (λ w. view_specifier w.now) c.tag_word-word.result) (declarators_of (map view_declarator c.as_slice-names.result.now)) (seen_type c.get.result.now)
     (shown c.args.out.now) (shown c.walk_specifiers.new.out) (shown c.walk_declarators.new.out)
     (ap (λ m. m.0) (view_Member c.args.one.now) ∙ ap (λ s. specifiers_of (map view_specifier s)) (sym c.as_slice-specs.ensures))
     (ap (λ m. m.1) (view_Member c.args.one.now) ∙ ap (λ s. declarators_of (map view_declarator s)) (sym c.as_slice-names.ensures))
-    c.in_ok-part.ensures.behind of c.in_ok-part.ensures.all c.in_ok-named.ensures.all
+    c.tag_word-word.ensures c.in_ok-part.ensures.behind of c.in_ok-part.ensures.all c.in_ok-named.ensures.all
 
 pub walk_members-loop-one-preserved : goal.walk_members-loop-one-preserved
 walk_members-loop-one-preserved t c =
@@ -154,7 +154,7 @@ walk_members-loop-one-preserved t c =
 pub walk_parameter-returns-clause-all : goal.walk_parameter-returns-clause-all
 walk_parameter-returns-clause-all t c =
     on_ok_weaker c.walk_bare_parameter.result
-    (steps.bare_said c.args.table.now (seen_environment c.args.env.now) (seen_environment c.walk_specifiers-in-Bare.new.env) (view_parameter c.args.p.now)
+    (steps.bare_said c.args.table.now c.args.has_body (seen_environment c.args.env.now) (seen_environment c.walk_specifiers-in-Bare.new.env) (view_parameter c.args.p.now)
     (specifiers_of (map view_specifier c.as_slice-specs.result.now)) (view_bare c.in-Bare.b)
     (shown c.args.out.now) (shown c.walk_specifiers-in-Bare.new.out) (shown c.walk_bare_parameter.new.out)
     (ap (λ p. p.0) (view_Parameter c.args.p.now) ∙ ap (λ s. specifiers_of (map view_specifier s)) (sym c.as_slice-specs.ensures))
@@ -173,11 +173,11 @@ walk_parameters-loop-one-preserved t c =
     let first = seen_environment c.args.env.now in
     let whole = parameters_of (map view_parameter c.args.all.now) in
     let more = steps.next c.args.all.now c.loop-one.one-index c.one-item.result c.loop-one-test.true c.one-item.is in
-    let settled : c.get.result.now.settled ≡ (parts.said_parameter rows env m).settled = search rules in
+    let settled : c.get.result.now.settled ≡ (parts.said_parameter rows body env m).settled = search rules in
     let broken : c.get-in-loop-one.result.now.faults ≡ faults.faults_form env m.0 m.1 = search rules in
     let of : seen_type c.get-in-loop-one-2.result.now.of ≡ parts.parameter_type env m = search rules in (
       steps.settled_step c.loop-one.settled c.get.result.now.settled c.both-settled.result
-          (parts.said_parameter rows env m).settled (nodes.said_parameters rows body (parts.behind_parameter body env m) rest).settled
+          (parts.said_parameter rows body env m).settled (nodes.said_parameters rows body (parts.behind_parameter body env m) rest).settled
           (nodes.said_parameters rows body at rest).settled (nodes.said_parameters rows body first whole).settled
           c.both-settled.ensures settled
           (ap (λ e. (nodes.said_parameters rows body e rest).settled) c.in_ok-by.ensures.behind)
@@ -192,14 +192,14 @@ walk_parameters-loop-one-preserved t c =
           (c.in_ok-share.ensures ∙ ap (λ t. t.kind) of)
           (ap (λ e. behind.parameter_kinds body e rest) c.in_ok-by.ensures.behind)
           (subst (λ ys. map view c.loop-one.kinds.items ++ behind.parameter_kinds body env (parameters_of (map view_parameter ys)) ≡ behind.parameter_kinds body first whole) more c.loop-one.invariant.2),
-      steps.added_step (parts.said_parameter rows env m).all (nodes.said_parameters rows body (parts.behind_parameter body env m) rest).all
+      steps.added_step (parts.said_parameter rows body env m).all (nodes.said_parameters rows body (parts.behind_parameter body env m) rest).all
           (nodes.said_parameters rows body at rest).all (shown c.loop-one.out) (shown c.walk_parameter.new.out) (added (nodes.said_parameters rows body first whole).all (shown c.args.out.now))
           c.in_ok-by.ensures.all
           (ap (λ e. (nodes.said_parameters rows body e rest).all) c.in_ok-by.ensures.behind)
           (subst (λ ys. added (nodes.said_parameters rows body env (parameters_of (map view_parameter ys))).all (shown c.loop-one.out) ≡ added (nodes.said_parameters rows body first whole).all (shown c.args.out.now)) more c.loop-one.invariant.3),
       ap (λ e. behind.behind_parameters body e rest) c.in_ok-by.ensures.behind
           ∙ subst (λ ys. behind.behind_parameters body env (parameters_of (map view_parameter ys)) ≡ behind.behind_parameters body first whole) more c.loop-one.invariant.4,
-      steps.some_added (parts.said_parameter rows env m).all (shown c.loop-one.out) (shown c.walk_parameter.new.out) c.in_ok-by.ensures.all c.loop-one.invariant.5,
+      steps.some_added (parts.said_parameter rows body env m).all (shown c.loop-one.out) (shown c.walk_parameter.new.out) c.in_ok-by.ensures.all c.loop-one.invariant.5,
     )
 
 pub walk_type-returns-clause-all : goal.walk_type-returns-clause-all

@@ -46,9 +46,9 @@ invariant-walk_members-loop-one l =
 
 abbrev pub invariant-walk_declarators-loop-d : goal.invariant-walk_declarators-loop-d
 invariant-walk_declarators-loop-d l =
-    ((l.settled && (nodes.said_declarators l.table (seen_environment l.env) (seen_members l.earlier) (specifiers_of (map view_specifier l.specs)) (seen_type l.of) (declarators_of (map view_declarator (drop l.d-index l.all)))).settled) ≡ (nodes.said_declarators l.fn.table (seen_environment l.fn.env) (seen_members l.fn.earlier) (specifiers_of (map view_specifier l.fn.specs)) (seen_type l.fn.of) (declarators_of (map view_declarator l.fn.all))).settled)
+    ((l.settled && (nodes.said_declarators l.table (seen_environment l.env) (seen_members l.earlier) (option_map (λ w. view_specifier w.now) l.word) (seen_type l.of) (declarators_of (map view_declarator (drop l.d-index l.all)))).settled) ≡ (nodes.said_declarators l.fn.table (seen_environment l.fn.env) (seen_members l.fn.earlier) (option_map (λ w. view_specifier w.now) l.fn.word) (seen_type l.fn.of) (declarators_of (map view_declarator l.fn.all))).settled)
     × (behind.declared_members (seen_environment l.env) (seen_members l.earlier) (seen_type l.of) (declarators_of (map view_declarator (drop l.d-index l.all))) ≡ behind.declared_members (seen_environment l.fn.env) (seen_members l.fn.earlier) (seen_type l.fn.of) (declarators_of (map view_declarator l.fn.all)))
-    × (added (nodes.said_declarators l.table (seen_environment l.env) (seen_members l.earlier) (specifiers_of (map view_specifier l.specs)) (seen_type l.of) (declarators_of (map view_declarator (drop l.d-index l.all)))).all (shown l.out) ≡ added (nodes.said_declarators l.fn.table (seen_environment l.fn.env) (seen_members l.fn.earlier) (specifiers_of (map view_specifier l.fn.specs)) (seen_type l.fn.of) (declarators_of (map view_declarator l.fn.all))).all (shown l.fn.out))
+    × (added (nodes.said_declarators l.table (seen_environment l.env) (seen_members l.earlier) (option_map (λ w. view_specifier w.now) l.word) (seen_type l.of) (declarators_of (map view_declarator (drop l.d-index l.all)))).all (shown l.out) ≡ added (nodes.said_declarators l.fn.table (seen_environment l.fn.env) (seen_members l.fn.earlier) (option_map (λ w. view_specifier w.now) l.fn.word) (seen_type l.fn.of) (declarators_of (map view_declarator l.fn.all))).all (shown l.fn.out))
     × (behind.behind_declarators (seen_environment l.env) (declarators_of (map view_declarator (drop l.d-index l.all))) ≡ behind.behind_declarators (seen_environment l.fn.env) (declarators_of (map view_declarator l.fn.all)))
     × (0 < length (shown l.out))
 

@@ -1,6 +1,6 @@
 use Rattle.std.proofs.Common.{sym, ap, ◌∙◌, ◌≡◌, ◌&&◌, map, option_map, is_some}
 use Rattle.std.proofs.lemmas.Result.{IfOk-weaker}
-use Rattle.c_tree.specs.View.{view_declarator, view_specifier, specifiers_of}
+use Rattle.c_tree.specs.View.{view_declarator, view_specifier}
 use Rattle.c_tree.specs.DeclaredNames.{declarator_name}
 use Rattle.c_tree.specs.StatementView.{view_init, view_named}
 use Rattle.c_environment.specs.Behind.{behind_declarator, declared}
@@ -37,7 +37,7 @@ pub returns-clause-settled : goal.returns-clause-settled
 returns-clause-settled c =
     let rows = c.args.table.now in
     let env = seen_environment c.args.env.now in
-    let ws = specifiers_of (map view_specifier c.args.specs.now) in
+    let word = option_map (λ w. view_specifier w.now) c.args.word in
     let t = seen_type c.args.of.now in
     let n = view_named c.args.n.now in
     let d = view_declarator c.args.n.now.declarator in
@@ -51,7 +51,7 @@ returns-clause-settled c =
     let of : seen_type by.of ≡ declared env t d = ap (λ w. seen_type w.of) whole ∙ c.in_ok-by.ensures.of in
     let first : c.get.result.now ≡ by = c.get.ensures ∙ sym whole in
     let kind : c.get-2.result.now ≡ by = c.get-2.ensures ∙ sym whole in
-    let same = closed_is rows env at inner storage ws t (seen_type by.of) n outside c.both-unknown.result by.settled by.are_sizes by.faults c.in_ok-name.name c.in_ok-init.init
+    let same = closed_is rows env at inner storage word t (seen_type by.of) n outside c.both-unknown.result by.settled by.are_sizes by.faults c.in_ok-name.name c.in_ok-init.init
     c.at_file_scope-outside.ensures
     (c.both-unknown.ensures ∙ ap (λ v. v && c.tag_unknown.result) c.is_own.ensures ∙ ap (λ v. is_own d && v) c.tag_unknown.ensures)
     (ap (λ w. w.settled) whole ∙ c.in_ok-by.ensures.settled) (ap (λ w. w.are_sizes) whole ∙ c.in_ok-by.ensures.sizes) of
@@ -64,7 +64,7 @@ returns-clause-settled c =
     (c.in_ok-init.ensures.settled ∙ ap (λ w. (spec.said_optional rows inner (seen_type w.of).kind n.init).settled) kind)
     c.in_ok-init.ensures.fixed
     (c.in_ok-init.ensures.misfit ∙ ap (λ w. spec.mismatched rows inner (seen_type w.of).kind n.init) kind) in
-    IfOk-weaker c.end_name.result (λ s. s ≡ is_settled said) (λ s. s ≡ (spec.said_named rows env c.args.storage ws t n).settled) (λ s h. h ∙ ap is_settled same) c.end_name.ensures.settled
+    IfOk-weaker c.end_name.result (λ s. s ≡ is_settled said) (λ s. s ≡ (spec.said_named rows env c.args.storage word t n).settled) (λ s h. h ∙ ap is_settled same) c.end_name.ensures.settled
 
 pub returns-clause-behind : goal.returns-clause-behind
 returns-clause-behind c =

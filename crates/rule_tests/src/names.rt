@@ -1,9 +1,9 @@
-//! Names, literals, forms, and the first misfit.
+//! Names, literals and forms.
 
 use crate::described::{described, is_wanted, operand};
 use c_builtins::BuiltIn;
 use c_kinds::CType;
-use c_rules::{Constant, Denoted, Designates, Form, MisfitKind, Verdict};
+use c_rules::{Constant, Denoted, Designates, Form, Verdict};
 use c_tree::UnaryOp;
 use std::alloc::{AllocError, Global};
 use std::test::Fail;

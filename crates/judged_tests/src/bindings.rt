@@ -21,7 +21,7 @@ const NAMES: [(&str, &str); 11] = [
     ("int main(void){signal(SIGINT,SIG_IGN);signal(SIGINT,SIG_DFL);errno=0;return signal(SIGINT,SIG_IGN)==SIG_ERR;}",
      " f0 signal =9 ignore signal =9 default errno signal =9 ignore failure"),
     ("int f(int a);int main(void){return f(1);}int f(int b){return b;}", " f1 f0 f1 f1 v0 v0"),
-    ("typedef int T;T x;int main(void){T T=1;x=T;return 0;}", " v0 f0 v1 v0 v1"),
+    ("typedef int T;T x;int main(void){x=sizeof(T);return 0;}", " v0 f0 v0"),
     ("int a;void f(int a){{int a;a=1;}a=2;}int main(void){a=3;return 0;}", " v0 f0 v1 v2 v2 v1 f1 v0"),
     ("int main(void){fputs(\"x\",stderr);return 0;}", " f0 fputs s2"),
     ("pthread_mutex_t m=PTHREAD_MUTEX_INITIALIZER;int main(void){pthread_mutex_lock(&m);return 0;}",

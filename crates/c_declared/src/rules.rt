@@ -6,7 +6,7 @@ ghost use Rattle.c_kinds.specs.View.{view};
 ghost use Rattle.c_tree.specs.DeclaredNames.{declarator_name};
 ghost use Rattle.c_tree.specs.View.{view_declarator};
 ghost use Rattle.c_bindings.specs.Binding as binding;
-ghost use Rattle.c_bindings.specs.Told.{bound, of_value};
+ghost use Rattle.c_bindings.specs.Told.{plainly, bound, of_value};
 ghost use Rattle.c_environment.specs.Behind.{with_parameter};
 ghost use Rattle.c_environment.specs.Entity.{enumerator, with_member};
 ghost use Rattle.c_environment.specs.Environment.{with_entity};
@@ -151,7 +151,7 @@ pub(crate) fn end_member<'a>(
 ) -> Result<bool, AllocError>
     requires { 1 < length (shown out.old) }
     ensures settled { IfOk result (λ s. s ≡ is_settled (member_judgement (seen_environment env.now) unknown (seen_members earlier.old) (view_declarator d.now) by.settled by.faults by.are_sizes (seen_type by.of))) }
-    ensures all { OnOk result (shown out.new ≡ closed (member_judgement (seen_environment env.now) unknown (seen_members earlier.old) (view_declarator d.now) by.settled by.faults by.are_sizes (seen_type by.of)) (shown out.old)) }
+    ensures all { OnOk result (shown out.new ≡ closed (plainly (member_judgement (seen_environment env.now) unknown (seen_members earlier.old) (view_declarator d.now) by.settled by.faults by.are_sizes (seen_type by.of))) (shown out.old)) }
     ensures members { OnOk result (seen_members earlier.new ≡ with_member (seen_members earlier.old) (declarator_name (view_declarator d.now)) (seen_type by.of).kind) }
 {
     let own = member_rule(env, unknown, earlier, d, by.get())?;

@@ -40,9 +40,10 @@ use crate::faults::{
 };
 use crate::judgements::Judgements;
 use crate::operands::{
-    Walked, as_callee, ended, expression_binding, row_of, walked_arrow, walked_assign, walked_binary, walked_call,
-    walked_character, walked_choose, walked_comma, walked_dot, walked_index, walked_integer,
-    walked_name, walked_paren, walked_size_of, walked_step, walked_text, walked_unary,
+    Walked, as_callee, ended, expression_binding, row_of, walked_arrow, walked_assign,
+    walked_binary, walked_call, walked_character, walked_choose, walked_comma, walked_dot,
+    walked_index, walked_integer, walked_name, walked_paren, walked_size_of, walked_step,
+    walked_text, walked_unary,
 };
 use crate::rules::{end_enumerator, end_member, end_parameter, walked_cast, walked_size_of_type};
 use base_core::Lexeme;

@@ -23,9 +23,9 @@ returns-in_ok-settled-in-len1-up-clause-all c =
     let given = seen_type c.get.result.now in
     let of : given ≡ specified env ws = search rules in
     let first = (nodes.said_specifiers rows env ws).all in
-    let word = option_map (λ w. view_specifier w.now) c.tag_word-word-in-len1-up.result in
+    let word = option_map (λ w. view_specifier w.now) c.tag_word-word.result in
     steps.joined first (spec.said_names rows at storage word given ns).all (shown c.args.out.now) (shown c.walk_specifiers.new.out) (shown c.walk_names.new.out)
     c.in_ok-part-in-len1-up.ensures.all c.in_ok-settled-in-len1-up.ensures.all
     ∙ ap (λ e. added (first ++ (spec.said_names rows e storage word given ns).all) (shown c.args.out.now)) c.in_ok-part-in-len1-up.ensures.behind
-    ∙ ap (λ w. added (first ++ (spec.said_names rows (behind_specifiers env ws) storage w given ns).all) (shown c.args.out.now)) c.tag_word-word-in-len1-up.ensures
+    ∙ ap (λ w. added (first ++ (spec.said_names rows (behind_specifiers env ws) storage w given ns).all) (shown c.args.out.now)) c.tag_word-word.ensures
     ∙ ap (λ t. added (first ++ (spec.said_names rows (behind_specifiers env ws) storage (tag_word ws) t ns).all) (shown c.args.out.now)) of

@@ -1,7 +1,5 @@
 -- What a name stands for, by the number of the object or function, or by its value (C11 6.2.1p1, 6.5.1p2).
 use Rattle.std.specs.Prelude.{ℕ, Option, Some, None, ℤ, pos}
-use Rattle.base_core.specs.declared.id.FnId.{FnId}
-use Rattle.base_core.specs.declared.id.VarId.{VarId}
 use Rattle.c_builtins.specs.declared.names.BuiltIn.{BuiltIn}
 use Rattle.c_builtins.specs.declared.names.BuiltIn.TheVariants as b
 use Rattle.c_scopes.specs.Scope.{Name}
